@@ -1,0 +1,152 @@
+-- Laws of judging: what follows a pass, and what a pass says of the input.
+-- Assumes nothing.
+use mathlib.Core.Path.{_≡_, refl, sym, _∙_}
+use mathlib.Core.Bool.{Bool, true, false, not, _||_}
+use mathlib.Core.List.{List, [], _∷_, _++_}
+use Prim.Native.Nat.{ℕ, _*_, _≤_, _<_}
+use native.Mathlib.Omega.{arith}
+use borrow.Author.Tests.{ltb-false, not-false, eqb-true, le-ltb}
+use lib.Dec.{ltb, eqb}
+use lib.ListN.{length}
+use Rattle.algebra.specs.Fp.{Prime}
+use Rattle.numbers.specs.Words.{choose, firstLarge, outside}
+use Rattle.numbers.specs.Divisor.{leastDivisor}
+use Rattle.numbers.specs.Refusals.{Check, check, judge, refusal, modulusChecks, unreduced, inputChecks, operationChecks, largestModulus}
+use Rattle.numbers.specs.declared.refusal.Refusal.{Refusal}
+use Rattle.numbers.specs.declared.refusal.Verdict.{Verdict}
+use Rattle.numbers.specs.declared.refusal.Verdict.the-variants.{Pass, Refuse}
+use Rattle.numbers.proofs.WordsLaws.{AllBelow, none-large, below-append}
+use Rattle.numbers.proofs.DivisorLaws.{least-prime, prime-least}
+
+not-pass : {A : Type 0} (r : Refusal) → Refuse r ≡ Pass → A
+not-pass r e = absurd (let z : _≡_ {A = ℕ} 0 1 = cc in omega arith)
+
+pub none-judged : judge [] ≡ Pass
+unfolding judge
+none-judged = refl
+
+-- the checks that follow those that pass, and those that don't
+pub after-pass : (cs ds : List Check) → judge cs ≡ Pass → judge (cs ++ ds) ≡ judge ds
+unfolding judge
+after-pass [] ds e = refl
+after-pass (c ∷ cs) ds e = go (c .applies) e (after-pass cs ds)
+  where
+    go : (b : Bool) → choose b (Refuse (refusal (c .number) (c .detail))) (judge cs) ≡ Pass → (judge cs ≡ Pass → judge (cs ++ ds) ≡ judge ds)
+        → choose b (Refuse (refusal (c .number) (c .detail))) (judge (cs ++ ds)) ≡ judge ds
+    go true e more = not-pass _ e
+    go false e more = more e
+
+pub after-refuse : (cs ds : List Check) (r : Refusal) → judge cs ≡ Refuse r → judge (cs ++ ds) ≡ Refuse r
+unfolding judge
+after-refuse [] ds r e = not-pass r (sym e)
+after-refuse (c ∷ cs) ds r e = go (c .applies) e (after-refuse cs ds r)
+  where
+    go : (b : Bool) → choose b (Refuse (refusal (c .number) (c .detail))) (judge cs) ≡ Refuse r → (judge cs ≡ Refuse r → judge (cs ++ ds) ≡ Refuse r)
+        → choose b (Refuse (refusal (c .number) (c .detail))) (judge (cs ++ ds)) ≡ Refuse r
+    go true e more = e
+    go false e more = more e
+
+pub pass-check : (c : Check) (cs : List Check) → judge (c ∷ cs) ≡ Pass → (c .applies ≡ false) × (judge cs ≡ Pass)
+unfolding judge
+pass-check c cs e = go (c .applies) e
+  where
+    go : (b : Bool) → choose b (Refuse (refusal (c .number) (c .detail))) (judge cs) ≡ Pass → (b ≡ false) × (judge cs ≡ Pass)
+    go true e = not-pass _ e
+    go false e = (refl, e)
+
+pub take-check : (c : Check) (cs : List Check) → c .applies ≡ true → judge (c ∷ cs) ≡ Refuse (refusal (c .number) (c .detail))
+unfolding judge
+take-check c cs e = rw e
+
+pub skip-check : (c : Check) (cs : List Check) → c .applies ≡ false → judge (c ∷ cs) ≡ judge cs
+unfolding judge
+skip-check c cs e = rw e
+
+-- where all pass, each part does
+pub pass-parts : (cs ds : List Check) → judge (cs ++ ds) ≡ Pass → (judge cs ≡ Pass) × (judge ds ≡ Pass)
+pass-parts [] ds e = (none-judged, e)
+pass-parts (c ∷ cs) ds e =
+    let (skipped, rest) = pass-check c (cs ++ ds) e in
+    let (a, b) = pass-parts cs ds rest in
+    (skip-check c cs skipped ∙ a, b)
+
+pub neither : (a b : Bool) → a || b ≡ false → (a ≡ false) × (b ≡ false)
+neither true b e = absurd (let z : true ≡ false = e in let w : _≡_ {A = ℕ} 0 1 = cc in omega arith)
+neither false b e = (refl, e)
+
+-- p is a modulus: what rows 1 and 2 let pass. (The kernels are proved for every p below 2^24.)
+pub record Modulus (p : ℕ) : Type 0 where
+  pub prime : Prime p
+  pub two : 2 ≤ p
+  pub small : p < 16777216
+
+pub modulus-pass : (p : ℕ) → judge (modulusChecks p) ≡ Pass → Modulus p
+modulus-pass p e =
+    let a = pass-check (check 1 (outside 2 largestModulus p) 0) _ e in
+    let b = pass-check (check 2 (ltb (leastDivisor p) p) (leastDivisor p)) _ (a .1) in
+    let (low, high) = neither (ltb p 2) (ltb largestModulus p) (a .0) in
+    let two : 2 ≤ p = ltb-false p 2 low in
+    record { prime = least-prime p two (ltb-false (leastDivisor p) p (b .0)); two = two; small = omega (arith, ltb-false largestModulus p high) }
+
+-- every prime up to the largest modulus passes
+pub modulus-fine : (p : ℕ) → Prime p → p ≤ largestModulus → judge (modulusChecks p) ≡ Pass
+unfolding judge
+modulus-fine p prime h =
+    let two = prime .two-le in
+    simp (le-ltb p 2 (omega arith), le-ltb largestModulus p h, le-ltb (leastDivisor p) p (omega (arith, prime-least prime)))
+
+-- what is known of an operation's input where rows 1 to 6 pass
+pub record Inputs (p N : ℕ) (f : List ℕ) (fRows : ℕ) (g : List ℕ) (gRows rows : ℕ) : Type 0 where
+  pub modulus : Modulus p
+  pub f-high : fRows ≤ 33
+  pub g-high : gRows ≤ 33
+  pub high : rows ≤ 33
+  pub terms-low : 1 ≤ N
+  pub terms-high : N ≤ 256
+  pub f-long : length f ≡ fRows * N
+  pub g-long : length g ≡ gRows * N
+  pub f-below : AllBelow p f
+  pub g-below : AllBelow p g
+
+pub reduced : (p : ℕ) (s : List ℕ) → unreduced p s ≡ false → AllBelow p s
+reduced p s e = none-large p s (ltb-false (firstLarge p s) (length s) e)
+
+pub inputs-pass : (p N : ℕ) (f : List ℕ) (fRows : ℕ) (g : List ℕ) (gRows rows : ℕ)
+    → judge (inputChecks p N f fRows g gRows rows) ≡ Pass → Inputs p N f fRows g gRows rows
+inputs-pass p N f fRows g gRows rows e =
+    let m = pass-parts (modulusChecks p) _ e in
+    let a = pass-check (check 3 (ltb 33 fRows || (ltb 33 gRows || ltb 33 rows)) 0) _ (m .1) in
+    let b = pass-check (check 4 (outside 1 256 N) 0) _ (a .1) in
+    let c = pass-check (check 5 (not (eqb (length f) (fRows * N)) || not (eqb (length g) (gRows * N))) 0) _ (b .1) in
+    let d = pass-check (check 6 (unreduced p (f ++ g)) (firstLarge p (f ++ g))) _ (c .1) in
+    let (a1, a2) = neither (ltb 33 fRows) (ltb 33 gRows || ltb 33 rows) (a .0) in
+    let (a3, a4) = neither (ltb 33 gRows) (ltb 33 rows) a2 in
+    let (b1, b2) = neither (ltb N 1) (ltb 256 N) (b .0) in
+    let (c1, c2) = neither (not (eqb (length f) (fRows * N))) (not (eqb (length g) (gRows * N))) (c .0) in
+    let (fb, gb) = below-append p f g (reduced p (f ++ g) (d .0)) in
+    record {
+      modulus = modulus-pass p (m .0);
+      f-high = ltb-false 33 fRows a1;
+      g-high = ltb-false 33 gRows a3;
+      high = ltb-false 33 rows a4;
+      terms-low = ltb-false N 1 b1;
+      terms-high = ltb-false 256 N b2;
+      f-long = eqb-true (length f) (fRows * N) (not-false _ c1);
+      g-long = eqb-true (length g) (gRows * N) (not-false _ c2);
+      f-below = fb;
+      g-below = gb;
+    }
+
+-- and where row 10 passes too
+pub record Operation (p N : ℕ) (f : List ℕ) (fRows : ℕ) (g : List ℕ) (gRows rows room : ℕ) : Type 0 where
+  pub inputs : Inputs p N f fRows g gRows rows
+  pub roomy : rows * N ≤ room
+
+pub operation-pass : (p N : ℕ) (f : List ℕ) (fRows : ℕ) (g : List ℕ) (gRows rows room : ℕ)
+    → judge (operationChecks p N f fRows g gRows rows room) ≡ Pass → Operation p N f fRows g gRows rows room
+operation-pass p N f fRows g gRows rows room e =
+    let m = pass-parts (inputChecks p N f fRows g gRows rows) _ e in
+    record {
+      inputs = inputs-pass p N f fRows g gRows rows (m .0);
+      roomy = ltb-false room (rows * N) (pass-check (check 10 (ltb room (rows * N)) (rows * N)) [] (m .1) .0);
+    }

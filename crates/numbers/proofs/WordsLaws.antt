@@ -1,0 +1,184 @@
+-- Laws of the definitions of `specs/Words`: what a search finds, and lists that a loop fills word by word.
+-- Assumes nothing.
+use mathlib.Core.Path.{_≡_, refl, sym, ap, subst, _∙_}
+use mathlib.Core.Bool.{Bool, true, false}
+use mathlib.Core.Logic.{⊎-elim, _⊎_, inl, inr}
+use mathlib.Core.List.{List, [], _∷_, _++_, append-assoc, append-nil}
+use Prim.Native.Nat.{ℕ, zero, suc, _+_, _≤_, _<_}
+use native.Mathlib.Nat.{le-of-suc-le-suc, eq-or-lt-of-le, le-refl}
+use native.Mathlib.Decide.{decLt}
+use native.Mathlib.Numerals.{add-one}
+use native.Mathlib.Omega.{arith}
+use borrow.Author.Tests.{le-leb, lt-leb, leb-false}
+use lib.Dec.{leb}
+use lib.ListN.{length, getD, take, drop, set, List·getD-append, length-set, length-append, length-drop}
+use lib.Seq.{set-at, drop-cons, take-at, drop-at, drop-drop, drop-length, getD-at, getD-append-add}
+use Rattle.numbers.specs.Words.{word, choose, firstWhere, firstLarge, tabulate, over}
+
+pub lt-or-ge : (a b : ℕ) → (a < b) ⊎ (b ≤ a)
+lt-or-ge a b = elim (decLt a b) [ yes l ↦ inl l | no n ↦ inr (omega arith) ]
+
+pub true-false : {A : Type 0} → true ≡ false → A
+true-false e = absurd (let z : _≡_ {A = ℕ} 0 1 = cc in omega arith)
+
+is-false : (b : Bool) → (b ≡ true → ⊥) → b ≡ false
+is-false true h = absurd (h refl)
+is-false false h = refl
+
+-- the number that passes, and below which none does
+pub first-is : (f : ℕ → Bool) (d n r : ℕ) → d ≤ r → r ≤ d + n → (r < d + n → f r ≡ true)
+    → ((k : ℕ) → d ≤ k → k < r → f k ≡ true → ⊥) → firstWhere f d n ≡ r
+unfolding firstWhere
+first-is f d zero r lo hi at none = omega arith
+first-is f d (suc n) r lo hi at none =
+    ⊎-elim
+    (λ (q : d ≡ r). let e : f d ≡ true = subst (λ (j : ℕ). f j ≡ true) (sym q) (at (omega arith)) in rw e q)
+    (λ (l : d < r). rw (is-false (f d) (none d (le-refl d) l))
+    (first-is f (suc d) n r (omega arith) (omega arith) (λ h. at (omega arith)) (λ k lo' hi' e. none k (omega arith) hi' e)))
+    (eq-or-lt-of-le lo)
+
+later : (f : ℕ → Bool) (d k t : ℕ) (b : Bool) → d ≤ k → f k ≡ true → f d ≡ b → (d < k → t ≤ k) → choose b d t ≤ k
+later f d k t true lo e q more = lo
+later f d k t false lo e q more =
+    ⊎-elim (λ (x : d ≡ k). true-false (sym (subst (λ (j : ℕ). f j ≡ true) (sym x) e) ∙ q)) more (eq-or-lt-of-le lo)
+
+-- it is no later than any that passes
+pub first-le : (f : ℕ → Bool) (d n k : ℕ) → d ≤ k → k < d + n → f k ≡ true → firstWhere f d n ≤ k
+unfolding firstWhere
+first-le f d zero k lo hi e = omega arith
+first-le f d (suc n) k lo hi e = later f d k _ (f d) lo e refl (λ (x : d < k). first-le f (suc d) n k (omega arith) (omega arith) e)
+
+-- all words are below p
+abbrev pub AllBelow : ℕ → List ℕ → Type 0
+AllBelow p s = (k : ℕ) → k < length s → word s k < p
+
+pub below-append : (p : ℕ) (s t : List ℕ) → AllBelow p (s ++ t) → AllBelow p s × AllBelow p t
+below-append p s t h = (
+  λ k l. subst (λ x. x < p) (List·getD-append s t 0 k l) (h k (omega (arith, length-append s t))),
+  λ k l. subst (λ x. x < p) (getD-append-add s t k 0) (h (length s + k) (omega (arith, length-append s t))),
+)
+
+-- the first large word: none before it is, and it is, unless it is the end
+pub first-large-is : (p : ℕ) (s : List ℕ) (r : ℕ) → r ≤ length s → ((k : ℕ) → k < r → word s k < p)
+    → (r < length s → p ≤ word s r) → firstLarge p s ≡ r
+unfolding firstLarge
+first-large-is p [] r hi below at = omega arith
+first-large-is p (x ∷ xs) zero hi below at = rw (le-leb p x (at (omega arith)))
+first-large-is p (x ∷ xs) (suc r) hi below at =
+    rw (lt-leb p x (below 0 (omega arith)))
+    (ap suc (first-large-is p xs r (le-of-suc-le-suc hi) (λ k h. below (suc k) (omega arith)) (λ h. at (omega arith))))
+
+head-below : (p x n t : ℕ) (b : Bool) → leb p x ≡ b → suc n ≤ choose b 0 (suc t) → (x < p) × (n ≤ t)
+head-below p x n t true e h = omega arith
+head-below p x n t false e h = (leb-false p x e, le-of-suc-le-suc h)
+
+-- where there is none, all are below
+pub none-large : (p : ℕ) (s : List ℕ) → length s ≤ firstLarge p s → AllBelow p s
+unfolding firstLarge
+none-large p [] h k l = omega arith
+none-large p (x ∷ xs) h zero l = head-below p x (length xs) (firstLarge p xs) (leb p x) refl h .0
+none-large p (x ∷ xs) h (suc k) l = none-large p xs (head-below p x (length xs) (firstLarge p xs) (leb p x) refl h .1) k (le-of-suc-le-suc l)
+
+choose-le : (b : Bool) (n t : ℕ) → t ≤ n → choose b 0 (suc t) ≤ suc n
+choose-le true n t h = omega arith
+choose-le false n t h = omega arith
+
+pub large-le : (p : ℕ) (s : List ℕ) → firstLarge p s ≤ length s
+unfolding firstLarge
+large-le p [] = omega arith
+large-le p (x ∷ xs) = choose-le (leb p x) (length xs) (firstLarge p xs) (large-le p xs)
+
+choose-suc : (b : Bool) (n t u : ℕ) → (t < n → u ≡ t) → choose b 0 (suc t) < suc n → choose b 0 (suc u) ≡ choose b 0 (suc t)
+choose-suc true n t u h l = refl
+choose-suc false n t u h l = ap suc (h (omega arith))
+
+-- in two lists, one after the other: in the first where it has one
+pub large-first : (p : ℕ) (s t : List ℕ) → firstLarge p s < length s → firstLarge p (s ++ t) ≡ firstLarge p s
+unfolding firstLarge
+large-first p [] t h = omega arith
+large-first p (x ∷ xs) t h = choose-suc (leb p x) (length xs) (firstLarge p xs) (firstLarge p (xs ++ t)) (large-first p xs t) h
+
+-- and else in the second, counted on
+pub large-second : (p : ℕ) (s t : List ℕ) → length s ≤ firstLarge p s → firstLarge p (s ++ t) ≡ length s + firstLarge p t
+unfolding firstLarge
+large-second p [] t h = omega arith
+large-second p (x ∷ xs) t h =
+    let (b, l) = head-below p x (length xs) (firstLarge p xs) (leb p x) refl h in
+    rw (lt-leb p x b) (let e = large-second p xs t l in omega arith)
+
+pub length-tabulate : (n : ℕ) (f : ℕ → ℕ) → length (tabulate n f) ≡ n
+unfolding tabulate
+length-tabulate zero f = refl
+length-tabulate (suc n) f = simp (length-append, length-tabulate n f) (omega arith)
+
+pub word-tabulate : (n : ℕ) (f : ℕ → ℕ) (k : ℕ) → k < n → word (tabulate n f) k ≡ f k
+unfolding tabulate
+word-tabulate zero f k h = omega arith
+word-tabulate (suc n) f k h =
+    ⊎-elim
+    (λ (e : k ≡ n). getD-at (tabulate n f) (f n) [] 0 k (length-tabulate n f ∙ sym e) ∙ ap f (sym e))
+    (λ (l : k < n). List·getD-append (tabulate n f) (f n ∷ []) 0 k (omega (arith, length-tabulate n f)) ∙ word-tabulate n f k l)
+    (eq-or-lt-of-le {n = k} {m = n} (omega arith))
+
+pub tabulate-ext : (n : ℕ) (f g : ℕ → ℕ) → ((k : ℕ) → k < n → f k ≡ g k) → tabulate n f ≡ tabulate n g
+unfolding tabulate
+tabulate-ext zero f g h = refl
+tabulate-ext (suc n) f g h = rw (tabulate-ext n f g (λ k l. h k (omega arith)), h n (omega arith))
+
+pub tabulate-below : (p n : ℕ) (f : ℕ → ℕ) → ((k : ℕ) → k < n → f k < p) → AllBelow p (tabulate n f)
+tabulate-below p n f b k h =
+    let l : k < n = omega (arith, length-tabulate n f) in
+    rw (word-tabulate n f k l) (b k l)
+
+pub tabulate-suc : (n : ℕ) (f : ℕ → ℕ) → tabulate (n + 1) f ≡ tabulate n f ++ (f n ∷ [])
+unfolding tabulate
+tabulate-suc n f = rw add-one
+
+pub length-over : (xs s : List ℕ) → length xs ≤ length s → length (over xs s) ≡ length s
+length-over xs s h = simp (length-append, length-drop) (omega arith)
+
+-- A list that a loop writes: xs stands over the first words of s, and the length is kept, which `omega` then finds.
+pub record Writing (xs s e : List ℕ) : Type 0 where
+  pub is : e ≡ over xs s
+  pub long : length e ≡ length s
+
+pub writing-none : (s : List ℕ) → Writing [] s s
+writing-none s = record { is = refl; long = refl }
+
+-- one word more
+pub writing-store : (xs s e : List ℕ) (n v : ℕ) → Writing xs s e → length xs ≡ n → n < length s → Writing (xs ++ (v ∷ [])) s (set e n v)
+writing-store xs s e n v w q h = record {
+  is = rw (w .is, q, length-append xs (v ∷ []), q, add-one, drop-cons s n 0)
+      (set-at xs (word s n) (drop (suc n) s) v n q ∙ sym (append-assoc xs (v ∷ []) (drop (suc n) s)));
+  long = length-set e n v ∙ w .long;
+}
+
+pub writing-next : (n : ℕ) (f : ℕ → ℕ) (s e : List ℕ) (v : ℕ) → Writing (tabulate n f) s e → v ≡ f n → n < length s → Writing (tabulate (n + 1) f) s (set e n v)
+writing-next n f s e v w q h =
+    subst (λ (xs : List ℕ). Writing xs s (set e n v)) (ap (λ (x : ℕ). tabulate n f ++ (x ∷ [])) q ∙ sym (tabulate-suc n f)) (writing-store (tabulate n f) s e n v w (length-tabulate n f) h)
+
+-- n words more, written by a call that was lent the part of n words from a on
+pub writing-part : (xs ys s e : List ℕ) (a n : ℕ) → Writing xs s e → length xs ≡ a → length ys ≡ n → a + n ≤ length s
+    → Writing (xs ++ ys) s (take a e ++ (ys ++ drop n (drop a e)))
+writing-part xs ys s e a n w q r h =
+    let e₁ : take a e ≡ xs = ap (take a) (w .is) ∙ take-at xs (drop (length xs) s) a q in
+    let k : length xs + n ≡ length (xs ++ ys) = omega (arith, length-append xs ys) in
+    let e₂ : drop n (drop a e) ≡ drop (length (xs ++ ys)) s =
+    ap (λ (l : List ℕ). drop n (drop a l)) (w .is) ∙ ap (drop n) (drop-at xs (drop (length xs) s) a q)
+    ∙ drop-drop n (length xs) s ∙ ap (λ (k : ℕ). drop k s) k in
+    record {
+      is = rw (e₁, e₂) (sym (append-assoc xs ys (drop (length (xs ++ ys)) s)));
+      long = rw (e₁, e₂) (simp (length-append, length-drop) (omega (arith, w .long)));
+    }
+
+-- the loop is at its end
+pub writing-all : (n m : ℕ) (f : ℕ → ℕ) (s e : List ℕ) → Writing (tabulate n f) s e → n ≡ m → e ≡ over (tabulate m f) s
+writing-all n m f s e w q = w .is ∙ ap (λ (k : ℕ). over (tabulate k f) s) q
+
+-- what is written so far
+pub writing-take : (xs s e : List ℕ) (n : ℕ) → Writing xs s e → length xs ≡ n → take n e ≡ xs
+writing-take xs s e n w q = ap (take n) (w .is) ∙ take-at xs (drop (length xs) s) n q
+
+-- a list as long as what is written over it
+pub over-whole : (xs s : List ℕ) → length xs ≡ length s → over xs s ≡ xs
+over-whole xs s q = ap (λ (l : List ℕ). xs ++ l) (ap (λ (k : ℕ). drop k s) q ∙ drop-length s) ∙ append-nil xs

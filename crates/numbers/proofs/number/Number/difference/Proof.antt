@@ -1,0 +1,77 @@
+-- `numbers::number::Number::difference` meets its contract: where the check passes both operands are below p.
+-- Assumes nothing.
+use mathlib.Core.Path.{_≡_, _∙_, sym}
+use mathlib.Core.List.{[], _∷_}
+use Prim.Native.Nat.{ℕ, _+_, _*_, _≤_}
+use native.Mathlib.Nat.{mod-lt, mul-le-mul}
+use native.Mathlib.Omega.{arith}
+use borrow.Author.Tests.{eq-eqb, ne-eqb}
+use Rattle.numbers.specs.Refusals.{judge, check}
+use Rattle.numbers.specs.Number.{operandChecks, differenceOf}
+use Rattle.numbers.specs.declared.refusal.Verdict.the-variants.{Pass, Refuse}
+use Rattle.numbers.proofs.NumberLaws.{two-pass, operands-pass}
+use Rattle.numbers.proofs.RefusalsLaws.{after-pass, after-refuse}
+use borrow.Author.Needs.{needs}
+use Rattle.numbers.proofs.number.Number.difference.Statement.{statement}
+use Rattle.numbers.proofs.number.Number.difference.Tie as tie
+
+slice-aggregate-check-operands : tie.Need-slice-aggregate-check-operands
+slice-aggregate-check-operands c = search needs
+
+check-operands-requires : tie.Need-check-operands-requires
+check-operands-requires c κs = search needs
+
+enum-known-r : tie.Need-enum-known-r
+enum-known-r c = search needs
+
+returns : tie.Need-returns
+unfolding differenceOf
+returns c =
+    let a = c .before .before .before .before .before .args in
+    let m = sym (c .before .before .before .check-operands .ensures) ∙ c .before .r .given .1 in
+    simp m
+
+enum-told : tie.Need-enum-told
+enum-told c = search needs
+
+sub-t10 : tie.Need-sub-t10
+sub-t10 c =
+    let a = c .before .before .before .before .args in
+    let m : judge (operandChecks (a .self .p) (a .self .value ∷ a .other ∷ [])) ≡ Pass = cc in
+    let o = two-pass (a .self .p) (a .self .value) (a .other) m in
+    omega arith
+
+add-t11 : tie.Need-add-t11
+add-t11 c =
+    let a = c .before .before .before .before .args in
+    let m : judge (operandChecks (a .self .p) (a .self .value ∷ a .other ∷ [])) ≡ Pass = cc in
+    let o = two-pass (a .self .p) (a .self .value) (a .other) m in
+    omega arith
+
+rem-t12 : tie.Need-rem-t12
+rem-t12 c =
+    let a = c .before .before .before .before .args in
+    let m : judge (operandChecks (a .self .p) (a .self .value ∷ a .other ∷ [])) ≡ Pass = cc in
+    let o = two-pass (a .self .p) (a .self .value) (a .other) m in
+    omega arith
+
+returns-2 : tie.Need-returns-2
+unfolding differenceOf
+returns-2 c =
+    let a = c .before .before .before .before .args in
+    let m : judge (operandChecks (a .self .p) (a .self .value ∷ a .other ∷ [])) ≡ Pass = cc in
+    simp m
+
+pub difference-spec : {M : Type 1} → statement M
+difference-spec =
+    tie.close
+    (tie.spec
+    slice-aggregate-check-operands
+    check-operands-requires
+    enum-known-r
+    returns
+    enum-told
+    sub-t10
+    add-t11
+    rem-t12
+    returns-2)

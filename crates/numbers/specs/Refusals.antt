@@ -1,0 +1,84 @@
+-- Refusals by number: how every operation judges what it is given.
+--   largestModulus      the largest modulus
+--   check n b d         a row of document 01's table: number n is given when b holds, with detail d
+--   judge checks        the first check of the list that applies: the checks stand in number order
+--   result v x          the outcome that follows a verdict: a pass is accepted with x
+--   outcome r           document 01's number and values for each case of an answer
+--   written v new old   the words after the call: a refusal leaves the old ones
+--   modulusChecks p     rows 1 and 2
+--   unreduced p s       row 6 for the words s; its detail is firstLarge p s
+--   shapeChecks ..      rows 3 to 6 for an operation that takes fRows rows f and gRows rows g of N words each and gives `rows` rows:
+--                       a degree bound is above 32 where there are more than 33 rows
+--   inputChecks ..      rows 1 to 6 for such an operation
+--   operationChecks ..  and row 10, for an output of `room` words
+-- Assumes nothing.
+use Prim.Native.Nat.{ℕ, _*_}
+use mathlib.Core.Bool.{Bool, true, false, not, _||_}
+use mathlib.Core.List.{List, [], _∷_, _++_}
+use lib.Dec.{leb, ltb, eqb}
+use lib.ListN.{length}
+use Rattle.numbers.specs.Words.{choose, firstLarge, outside}
+use Rattle.numbers.specs.Divisor.{leastDivisor}
+use Rattle.numbers.specs.declared.refusal.Refusal.{Refusal}
+use Rattle.numbers.specs.declared.refusal.Verdict.{Verdict}
+use Rattle.numbers.specs.declared.refusal.Verdict.the-variants.{Pass, Refuse}
+use Rattle.numbers.specs.declared.refusal.Answer.{Answer}
+use Rattle.numbers.specs.declared.refusal.Answer.the-variants.{Done, Refused}
+
+abbrev pub largestModulus : ℕ
+largestModulus = 65535
+
+abbrev pub refusal : ℕ → ℕ → Refusal
+refusal n d = record { number = n; detail = d }
+
+pub record Check : Type 0 where
+  pub number : ℕ
+  pub applies : Bool
+  pub detail : ℕ
+
+abbrev pub check : ℕ → Bool → ℕ → Check
+check n b d = record { number = n; applies = b; detail = d }
+
+unfoldable pub judge : List Check → Verdict
+judge [] = Pass
+judge (c ∷ cs) = choose (c .applies) (Refuse (refusal (c .number) (c .detail))) (judge cs)
+
+pub data Outcome (A : Type 0) : Type 0 where
+  accepted : A → Outcome A
+  refused : (number detail : ℕ) → Outcome A
+
+abbrev pub result : {A : Type 0} → Verdict → A → Outcome A
+result Pass x = accepted x
+result (Refuse r) x = refused (r .number) (r .detail)
+
+abbrev pub outcome : Answer → Outcome ℕ
+outcome (Done n) = accepted n
+outcome (Refused r) = refused (r .number) (r .detail)
+
+abbrev pub written : Verdict → List ℕ → List ℕ → List ℕ
+written Pass new old = new
+written (Refuse r) new old = old
+
+abbrev pub modulusChecks : ℕ → List Check
+modulusChecks p =
+    check 1 (outside 2 largestModulus p) 0
+    ∷ check 2 (ltb (leastDivisor p) p) (leastDivisor p)
+    ∷ []
+
+abbrev pub unreduced : ℕ → List ℕ → Bool
+unreduced p s = ltb (firstLarge p s) (length s)
+
+abbrev pub shapeChecks : (p N : ℕ) (f : List ℕ) (fRows : ℕ) (g : List ℕ) (gRows rows : ℕ) → List Check
+shapeChecks p N f fRows g gRows rows =
+    check 3 (ltb 33 fRows || (ltb 33 gRows || ltb 33 rows)) 0
+    ∷ check 4 (outside 1 256 N) 0
+    ∷ check 5 (not (eqb (length f) (fRows * N)) || not (eqb (length g) (gRows * N))) 0
+    ∷ check 6 (unreduced p (f ++ g)) (firstLarge p (f ++ g))
+    ∷ []
+
+abbrev pub inputChecks : (p N : ℕ) (f : List ℕ) (fRows : ℕ) (g : List ℕ) (gRows rows : ℕ) → List Check
+inputChecks p N f fRows g gRows rows = modulusChecks p ++ shapeChecks p N f fRows g gRows rows
+
+abbrev pub operationChecks : (p N : ℕ) (f : List ℕ) (fRows : ℕ) (g : List ℕ) (gRows rows room : ℕ) → List Check
+operationChecks p N f fRows g gRows rows room =
+    inputChecks p N f fRows g gRows rows ++ (check 10 (ltb room (rows * N)) (rows * N) ∷ [])

@@ -1,0 +1,43 @@
+-- Lists of words, as slices hold them, and numbers found by a test.
+--   word s i             word i of s
+--   choose b x y         x where the test b holds, else y
+--   firstWhere test d n  the first of d, d + 1, .., d + n − 1 that passes the test, or d + n
+--   firstLarge p s       the position of the first word of s that is p or more, or the length of s
+--   outside low high n   n is below low or above high
+--   tabulate n f         the words f 0, f 1, .., f (n − 1)
+--   over xs s            s with the words xs in place of its first ones
+--   part s a n           the n words of s from word a on
+-- Assumes nothing.
+use Prim.Native.Nat.{ℕ, zero, suc, _<_}
+use mathlib.Core.Bool.{Bool, true, false, _||_}
+use mathlib.Core.List.{List, [], _∷_, _++_}
+use lib.Dec.{leb, ltb}
+use lib.ListN.{length, getD, take, drop}
+
+abbrev pub word : List ℕ → ℕ → ℕ
+word s i = getD s i 0
+
+abbrev pub choose : {A : Type 0} → Bool → A → A → A
+choose true x y = x
+choose false x y = y
+
+unfoldable pub firstWhere : (ℕ → Bool) → ℕ → ℕ → ℕ
+firstWhere test d zero = d
+firstWhere test d (suc n) = choose (test d) d (firstWhere test (suc d) n)
+
+unfoldable pub firstLarge : ℕ → List ℕ → ℕ
+firstLarge p [] = 0
+firstLarge p (x ∷ s) = choose (leb p x) 0 (suc (firstLarge p s))
+
+abbrev pub outside : ℕ → ℕ → ℕ → Bool
+outside low high n = ltb n low || ltb high n
+
+unfoldable pub tabulate : ℕ → (ℕ → ℕ) → List ℕ
+tabulate zero f = []
+tabulate (suc n) f = tabulate n f ++ (f n ∷ [])
+
+abbrev pub over : List ℕ → List ℕ → List ℕ
+over xs s = xs ++ drop (length xs) s
+
+abbrev pub part : List ℕ → ℕ → ℕ → List ℕ
+part s a n = take n (drop a s)
