@@ -360,3 +360,34 @@ module _ {R : Type 0} (𝓡 : CommRing R) where
     nonroot-linPow x c ne (suc m) =
         rw (pow-suc (Series 𝓡) (lin c) m)
         (nonroot-mul x (lin c) _ (poly-lin c) (poly-pow (poly-lin c) m) (nonroot-lin x c ne) (nonroot-linPow x c ne m))
+
+-- powers of Y: the root 0
+module _ {R : Type 0} (𝓡 : CommRing R) where
+  open CommRing 𝓡 using (𝟘, add as _+_, mul as _*_, neg)
+  open CommRing (Series 𝓡) using (mul as _⊛_)
+
+  infixl 65 _+_
+  infixl 70 _*_
+  infixl 70 _⊛_
+  y-mul-zero : (q : ℕ → R) → (lin 𝓡 𝟘 ⊛ q) zero ≡ 𝟘
+  y-mul-zero q = lin-mul-zero 𝓡 𝟘 q ∙ simp (minus, 𝓡)
+
+  y-mul-suc : (q : ℕ → R) (t : ℕ) → (lin 𝓡 𝟘 ⊛ q) (suc t) ≡ q t
+  y-mul-suc q t = lin-mul-suc 𝓡 𝟘 q t ∙ simp (minus, 𝓡)
+
+  -- Y^d · a has the coefficients of a, moved up by d
+  pub yPow-high : (d : ℕ) (a : ℕ → R) (j : ℕ) → (linPow 𝓡 𝟘 d ⊛ a) (d +ₙ j) ≡ a j
+  yPow-high zero a j = ap (λ x. x (zero +ₙ j)) (pow-zero-mul (Series 𝓡) (lin 𝓡 𝟘) a) ∙ ap a (let z : zero +ₙ j ≡ j = omega arith in z)
+  yPow-high (suc d) a j =
+      ap (λ x. x (suc d +ₙ j)) (pow-suc-mul (Series 𝓡) (lin 𝓡 𝟘) d a)
+      ∙ ap (lin 𝓡 𝟘 ⊛ (linPow 𝓡 𝟘 d ⊛ a)) (let z : suc d +ₙ j ≡ suc (d +ₙ j) = omega arith in z)
+      ∙ y-mul-suc _ (d +ₙ j) ∙ yPow-high d a j
+
+  pub yPow-low : (d : ℕ) (a : ℕ → R) (j : ℕ) → suc j ≤ d → (linPow 𝓡 𝟘 d ⊛ a) j ≡ 𝟘
+  yPow-low zero a j l = absurd (not-suc-le-zero l)
+  yPow-low (suc d) a zero l = ap (λ x. x zero) (pow-suc-mul (Series 𝓡) (lin 𝓡 𝟘) d a) ∙ y-mul-zero _
+  yPow-low (suc d) a (suc j) l = ap (λ x. x (suc j)) (pow-suc-mul (Series 𝓡) (lin 𝓡 𝟘) d a) ∙ y-mul-suc _ j ∙ yPow-low d a j (le-of-suc-le-suc l)
+
+  -- the value at 0 is the first coefficient
+  pub eval-zero : (k : ℕ) (a : ℕ → R) → eval 𝓡 𝟘 (suc k) a ≡ a zero
+  eval-zero k a = horner-suc 𝓡 𝟘 k a zero ∙ simp (units, 𝓡)

@@ -4,11 +4,10 @@ use mathlib.Core.Path.{_≡_}
 use mathlib.Core.List.{List, [], _∷_}
 use Prim.Native.Nat.{ℕ, _<_}
 use native.Mathlib.Omega.{arith}
-use Rattle.numbers.specs.Words.{firstLarge}
+use Rattle.numbers.specs.Words.{firstLarge, AllBelow}
 use Rattle.numbers.specs.Refusals.{check, judge, modulusChecks, unreduced}
 use Rattle.numbers.specs.Number.{operandChecks}
 use Rattle.numbers.specs.declared.refusal.Verdict.the-variants.{Pass}
-use Rattle.numbers.proofs.WordsLaws.{AllBelow}
 use Rattle.numbers.proofs.RefusalsLaws.{Modulus, modulus-pass, pass-parts, pass-check, reduced}
 
 pub operands-pass : (p : ℕ) (xs : List ℕ) → judge (operandChecks p xs) ≡ Pass → Modulus p × AllBelow p xs

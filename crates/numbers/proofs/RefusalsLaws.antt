@@ -1,6 +1,6 @@
 -- Laws of judging: what follows a pass, and what a pass says of the input.
 -- Assumes nothing.
-use mathlib.Core.Path.{_≡_, refl, sym, _∙_}
+use mathlib.Core.Path.{_≡_, refl, sym, ap, _∙_}
 use mathlib.Core.Bool.{Bool, true, false, not, _||_}
 use mathlib.Core.List.{List, [], _∷_, _++_}
 use Prim.Native.Nat.{ℕ, _*_, _≤_, _<_}
@@ -9,13 +9,13 @@ use borrow.Author.Tests.{ltb-false, not-false, eqb-true, le-ltb}
 use lib.Dec.{ltb, eqb}
 use lib.ListN.{length}
 use Rattle.algebra.specs.Fp.{Prime}
-use Rattle.numbers.specs.Words.{choose, firstLarge, outside}
+use Rattle.numbers.specs.Words.{choose, firstLarge, over, outside, AllBelow}
 use Rattle.numbers.specs.Divisor.{leastDivisor}
-use Rattle.numbers.specs.Refusals.{Check, check, judge, refusal, modulusChecks, unreduced, inputChecks, operationChecks, largestModulus}
+use Rattle.numbers.specs.Refusals.{Check, check, judge, refusal, Outcome, accepted, refused, result, written, modulusChecks, unreduced, inputChecks, operationChecks, largestModulus}
 use Rattle.numbers.specs.declared.refusal.Refusal.{Refusal}
 use Rattle.numbers.specs.declared.refusal.Verdict.{Verdict}
 use Rattle.numbers.specs.declared.refusal.Verdict.the-variants.{Pass, Refuse}
-use Rattle.numbers.proofs.WordsLaws.{AllBelow, none-large, below-append}
+use Rattle.numbers.proofs.WordsLaws.{none-large, below-append}
 use Rattle.numbers.proofs.DivisorLaws.{least-prime, prime-least}
 
 not-pass : {A : Type 0} (r : Refusal) → Refuse r ≡ Pass → A
@@ -150,3 +150,13 @@ operation-pass p N f fRows g gRows rows room e =
       inputs = inputs-pass p N f fRows g gRows rows (m .0);
       roomy = ltb-false room (rows * N) (pass-check (check 10 (ltb room (rows * N)) (rows * N)) [] (m .1) .0);
     }
+
+-- after a refusal the answer is that refusal, and the words are as they were
+pub answer-refused : {v : Verdict} (r : Refusal) (n : ℕ) (new old : List ℕ) → v ≡ Refuse r
+    → (_≡_ {A = Outcome ℕ} (refused (r .number) (r .detail)) (result v n)) × (old ≡ written v new old)
+answer-refused r n new old e = rw e (refl, refl)
+
+-- after a pass the answer is n, and the words are those that a kernel wrote, whose count k it may name in its own way, m
+pub answer-done : {v : Verdict} (F : ℕ → List ℕ) (m k n : ℕ) (old out : List ℕ) → v ≡ Pass → out ≡ over (F m) old → m ≡ k
+    → (_≡_ {A = Outcome ℕ} (accepted n) (result v n)) × (out ≡ written v (over (F k) old) old)
+answer-done F m k n old out e w q = rw e (refl, w ∙ ap (λ (x : ℕ). over (F x) old) q)

@@ -13,7 +13,7 @@ use borrow.Author.Tests.{le-leb, lt-leb, leb-false}
 use lib.Dec.{leb}
 use lib.ListN.{length, getD, take, drop, set, List·getD-append, length-set, length-append, length-drop}
 use lib.Seq.{set-at, drop-cons, take-at, drop-at, drop-drop, drop-length, getD-at, getD-append-add}
-use Rattle.numbers.specs.Words.{word, choose, firstWhere, firstLarge, tabulate, over}
+use Rattle.numbers.specs.Words.{word, choose, firstWhere, firstLarge, AllBelow, tabulate, over}
 
 pub lt-or-ge : (a b : ℕ) → (a < b) ⊎ (b ≤ a)
 lt-or-ge a b = elim (decLt a b) [ yes l ↦ inl l | no n ↦ inr (omega arith) ]
@@ -48,9 +48,18 @@ unfolding firstWhere
 first-le f d zero k lo hi e = omega arith
 first-le f d (suc n) k lo hi e = later f d k _ (f d) lo e refl (λ (x : d < k). first-le f (suc d) n k (omega arith) (omega arith) e)
 
--- all words are below p
-abbrev pub AllBelow : ℕ → List ℕ → Type 0
-AllBelow p s = (k : ℕ) → k < length s → word s k < p
+-- none before it passes, and it does, unless it is the end
+pub first-before : (f : ℕ → Bool) (d n k : ℕ) → d ≤ k → k < firstWhere f d n → k < d + n → f k ≡ false
+first-before f d n k lo hi l = is-false (f k) (λ e. let z = first-le f d n k lo l e in let y : ⊥ = omega arith in y)
+
+found : (f : ℕ → Bool) (d n t : ℕ) (b : Bool) → f d ≡ b → (t < suc d + n → f t ≡ true) → choose b d t < d + suc n → f (choose b d t) ≡ true
+found f d n t true e more l = e
+found f d n t false e more l = more (omega arith)
+
+pub first-found : (f : ℕ → Bool) (d n : ℕ) → firstWhere f d n < d + n → f (firstWhere f d n) ≡ true
+unfolding firstWhere
+first-found f d zero l = absurd (let z : ⊥ = omega arith in z)
+first-found f d (suc n) l = found f d n (firstWhere f (suc d) n) (f d) refl (first-found f (suc d) n) l
 
 pub below-append : (p : ℕ) (s t : List ℕ) → AllBelow p (s ++ t) → AllBelow p s × AllBelow p t
 below-append p s t h = (

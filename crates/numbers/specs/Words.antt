@@ -2,7 +2,10 @@
 --   word s i             word i of s
 --   choose b x y         x where the test b holds, else y
 --   firstWhere test d n  the first of d, d + 1, .., d + n − 1 that passes the test, or d + n
+--   allTo n test         the test holds of 0, 1, .., n − 1
+--   all tests            all of these hold
 --   firstLarge p s       the position of the first word of s that is p or more, or the length of s
+--   AllBelow p s         every word of s is below p
 --   outside low high n   n is below low or above high
 --   tabulate n f         the words f 0, f 1, .., f (n − 1)
 --   over xs s            s with the words xs in place of its first ones
@@ -25,9 +28,20 @@ unfoldable pub firstWhere : (ℕ → Bool) → ℕ → ℕ → ℕ
 firstWhere test d zero = d
 firstWhere test d (suc n) = choose (test d) d (firstWhere test (suc d) n)
 
+unfoldable pub allTo : ℕ → (ℕ → Bool) → Bool
+allTo zero test = true
+allTo (suc n) test = choose (test n) (allTo n test) false
+
+unfoldable pub all : List Bool → Bool
+all [] = true
+all (b ∷ bs) = choose b (all bs) false
+
 unfoldable pub firstLarge : ℕ → List ℕ → ℕ
 firstLarge p [] = 0
 firstLarge p (x ∷ s) = choose (leb p x) 0 (suc (firstLarge p s))
+
+abbrev pub AllBelow : ℕ → List ℕ → Type 0
+AllBelow p s = (k : ℕ) → k < length s → word s k < p
 
 abbrev pub outside : ℕ → ℕ → ℕ → Bool
 outside low high n = ltb n low || ltb high n

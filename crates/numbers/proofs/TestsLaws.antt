@@ -1,0 +1,79 @@
+-- Tests that compute (`allTo`, `all`) and the facts that they stand for.
+-- Assumes nothing.
+use Prim.Native.Nat.{ℕ, zero, suc, _+_, _-_, _≤_, _<_}
+use native.Mathlib.Nat.{eq-or-lt-of-le, le-of-suc-le-suc, add-sub-of-le}
+use native.Mathlib.Omega.{arith}
+use mathlib.Core.Path.{_≡_, refl, sym, _∙_, ap, subst}
+use mathlib.Core.Logic.{_↔_, ⊎-elim}
+use mathlib.Core.Bool.{Bool, true, false}
+use mathlib.Core.List.{List, [], _∷_}
+use lib.Dec.{eqb, ltb}
+use lib.ListN.{getD}
+use borrow.Author.Tests.{eq-eqb, eqb-true, lt-ltb, ltb-true}
+use Rattle.numbers.specs.Words.{choose, allTo, all}
+use Rattle.numbers.proofs.WordsLaws.{true-false}
+
+-- where a test is true, and where it is false
+pub both-true : (b c : Bool) → choose b c false ≡ true → (b ≡ true) × (c ≡ true)
+both-true true c e = (refl, e)
+both-true false c e = true-false (sym e)
+
+pub true-both : (b c : Bool) → b ≡ true → c ≡ true → choose b c false ≡ true
+true-both b c e g = rw e g
+
+pub not-both : (b c : Bool) → c ≡ false → choose b c false ≡ false
+not-both true c e = e
+not-both false c e = refl
+
+pub allTo-at : (n : ℕ) (test : ℕ → Bool) → allTo n test ≡ true → (i : ℕ) → i < n → test i ≡ true
+unfolding allTo
+allTo-at zero test e i l = absurd (let z : ⊥ = omega arith in z)
+allTo-at (suc n) test e i l =
+    let h = both-true (test n) (allTo n test) e in
+    ⊎-elim (λ (q : i ≡ n). ap test q ∙ h .0) (λ g. allTo-at n test (h .1) i g) (eq-or-lt-of-le (le-of-suc-le-suc l))
+
+pub at-allTo : (n : ℕ) (test : ℕ → Bool) → ((i : ℕ) → i < n → test i ≡ true) → allTo n test ≡ true
+unfolding allTo
+at-allTo zero test h = refl
+at-allTo (suc n) test h = true-both (test n) (allTo n test) (h n (omega arith)) (at-allTo n test (λ i l. h i (omega arith)))
+
+pub allTo-false : (n : ℕ) (test : ℕ → Bool) (i : ℕ) → i < n → test i ≡ false → allTo n test ≡ false
+unfolding allTo
+allTo-false zero test i l e = absurd (let z : ⊥ = omega arith in z)
+allTo-false (suc n) test i l e =
+    ⊎-elim (λ (q : i ≡ n). rw (sym (ap test q) ∙ e)) (λ g. not-both (test n) (allTo n test) (allTo-false n test i g e)) (eq-or-lt-of-le (le-of-suc-le-suc l))
+
+pub all-at : (bs : List Bool) → all bs ≡ true → (i : ℕ) → getD bs i true ≡ true
+unfolding all
+all-at [] e i = refl
+all-at (b ∷ bs) e zero = both-true b (all bs) e .0
+all-at (b ∷ bs) e (suc i) = all-at bs (both-true b (all bs) e .1) i
+
+infixr 60 _&_
+pub data All : List Bool → Type 0 where
+  none-left : All []
+  _&_ : {b : Bool} {bs : List Bool} → b ≡ true → All bs → All (b ∷ bs)
+
+pub all-of : {bs : List Bool} → All bs → all bs ≡ true
+unfolding all
+all-of none-left = refl
+all-of (_&_ {b} {bs} t u) = true-both b (all bs) t (all-of u)
+
+-- families: all are equal, all are below, in a square of rows and columns, and in the columns from k on
+pub eqs : (n : ℕ) (f g : ℕ → ℕ) → (allTo n (λ i. eqb (f i) (g i)) ≡ true) ↔ ((i : ℕ) → i < n → f i ≡ g i)
+eqs n f g = (λ e i l. eqb-true _ _ (allTo-at n _ e i l), λ h. at-allTo n _ (λ i l. eq-eqb _ _ (h i l)))
+
+pub square : (n k : ℕ) (f g : ℕ → ℕ → ℕ) → (allTo n (λ j. allTo k (λ t. eqb (f j t) (g j t))) ≡ true) ↔ ((j : ℕ) → j < n → (t : ℕ) → t < k → f j t ≡ g j t)
+square n k f g = (λ e j l. eqs k (f j) (g j) .0 (allTo-at n _ e j l), λ h. at-allTo n _ (λ j l. eqs k (f j) (g j) .1 (h j l)))
+
+pub lower : (n k p : ℕ) (f : ℕ → ℕ → ℕ) → (allTo n (λ j. allTo k (λ t. ltb (f j t) p)) ≡ true) ↔ ((j : ℕ) → j < n → (t : ℕ) → t < k → f j t < p)
+lower n k p f = (
+  λ e j l t g. ltb-true _ _ (allTo-at k _ (allTo-at n _ e j l) t g),
+  λ h. at-allTo n _ (λ j l. at-allTo k _ (λ t g. lt-ltb _ _ (h j l t g))),
+)
+
+pub past : (n k m : ℕ) (f : ℕ → ℕ → ℕ) → (allTo n (λ j. allTo (m - k) (λ t. eqb (f j (k + t)) 0)) ≡ true) ↔ ((j : ℕ) → j < n → (t : ℕ) → k ≤ t → t < m → f j t ≡ 0)
+past n k m f = (
+  λ e j l t h g. subst (λ x. f j x ≡ 0) (add-sub-of-le h) (square n (m - k) (λ j t. f j (k + t)) (λ j t. 0) .0 e j l (t - k) (omega arith)),
+  λ h. square n (m - k) (λ j t. f j (k + t)) (λ j t. 0) .1 (λ j l t g. h j l (k + t) (omega arith) (omega arith)),
+)

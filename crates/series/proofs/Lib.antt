@@ -1,0 +1,3 @@
+pub mod SeriesLaws
+pub mod CheckLaws
+pub mod QuotientLaws

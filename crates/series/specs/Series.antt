@@ -1,0 +1,49 @@
+-- Series modulo p: lists of N words, word t the coefficient of X^t.
+--   seriesChecks ..      the checks of an operation on two series
+--   inverseChecks ..     of the inverse
+--   quotientChecks ..    of the quotient
+--   sums p n g h         g + h, word by word
+--   differences p n g h  g − h, word by word
+--   product p n g h      column t is the sum over i = 0..t of g_i · h_(t−i)
+--   quotient p n f g     column t is (f_t − the sum over i = 1..t of g_i · h_(t−i)) / g_0, from the columns h before it
+--   dotSum g h k         the sum over i < k of g_i · h_(k−1−i): what one pass along two rows adds up
+-- The inverse of g is the quotient of 1, the series 1, 0, 0, ..
+-- Assumes nothing.
+use Prim.Native.Nat.{ℕ, zero, suc, _+_, _-_, _*_, _%_}
+use mathlib.Core.List.{List, [], _∷_, _++_}
+use lib.Dec.{eqb}
+use Rattle.algebra.specs.Sums.{sumTo}
+use Rattle.numbers.specs.Words.{word, tabulate}
+use Rattle.numbers.specs.Divisor.{inverseOf}
+use Rattle.numbers.specs.Refusals.{Check, check, operationChecks}
+
+abbrev pub seriesChecks : (p N : ℕ) (g h : List ℕ) (room : ℕ) → List Check
+seriesChecks p N g h room = operationChecks p N g 1 h 1 1 room
+
+abbrev pub quotientChecks : (p N : ℕ) (f g : List ℕ) (room : ℕ) → List Check
+quotientChecks p N f g room = seriesChecks p N f g room ++ (check 12 (eqb (word g 0) 0) 0 ∷ [])
+
+abbrev pub inverseChecks : (p N : ℕ) (g : List ℕ) (room : ℕ) → List Check
+inverseChecks p N g room = operationChecks p N g 1 [] 0 1 room ++ (check 12 (eqb (word g 0) 0) 0 ∷ [])
+
+unfoldable pub sums : (p n : ℕ) (g h : List ℕ) → List ℕ
+sums p n g h = tabulate n (λ t. (word g t + word h t) % p)
+
+unfoldable pub differences : (p n : ℕ) (g h : List ℕ) → List ℕ
+differences p n g h = tabulate n (λ t. (word g t + (p - word h t)) % p)
+
+unfoldable pub productColumn : (p : ℕ) (g h : List ℕ) → ℕ → ℕ
+productColumn p g h t = sumTo (t + 1) (λ i. word g i * word h (t - i)) % p
+
+unfoldable pub product : (p n : ℕ) (g h : List ℕ) → List ℕ
+product p n g h = tabulate n (productColumn p g h)
+
+unfoldable pub quotientColumn : (p : ℕ) (f g h : List ℕ) → ℕ → ℕ
+quotientColumn p f g h t = (word f t + (p - sumTo t (λ i. word g (i + 1) * word h (t - (i + 1))) % p)) * inverseOf p (word g 0) % p
+
+unfoldable pub quotient : (p n : ℕ) (f g : List ℕ) → List ℕ
+quotient p zero f g = []
+quotient p (suc t) f g = quotient p t f g ++ (quotientColumn p f g (quotient p t f g) t ∷ [])
+
+unfoldable pub dotSum : (g h : List ℕ) → ℕ → ℕ
+dotSum g h k = sumTo k (λ i. word g i * word h (k - (i + 1)))

@@ -1,0 +1,93 @@
+// The loops along contiguous words, with sums in 64 bits and one reduction for each coefficient. These trust their caller: they have a
+// `requires`, and are for the crates of this repository. All are proved for every modulus below 2^24.
+use numbers::kernel::inverse_of;
+ghost use mathlib.Core.Path.{_≡_};
+ghost use Prim.Native.Nat.{ℕ, _≤_, _<_};
+ghost use lib.ListN.{length};
+ghost use Rattle.algebra.specs.Fp.{Prime};
+ghost use Rattle.numbers.specs.Words.{word, over, AllBelow};
+ghost use Rattle.series.specs.Series.{sums, differences, product, quotient, dotSum};
+
+// One pass along two rows, the second backwards, not yet reduced: at most 256 products below 2^48.
+pub fn dot(g: &[u32], h: &[u32], k: usize) -> u64
+    requires { ⌜ (k ≤ length (now g)) × (k ≤ length (now h)) × (k ≤ 256) × AllBelow 16777216 (now g) × AllBelow 16777216 (now h) ⌝ }
+    ensures { λ r. ⌜ r ≡ dotSum (now (g .entry)) (now (h .entry)) k ⌝ }
+{
+    let mut sum: u64 = 0;
+    let mut i = 0;
+    while i < k {
+        sum += (g[i] as u64) * (h[k - 1 - i] as u64);
+        i += 1;
+    }
+    sum
+}
+
+// Word t, or 0 past the end.
+fn word_or_zero(s: &[u32], t: usize) -> u32
+    ensures { λ r. ⌜ r ≡ word (now (s .entry)) t ⌝ }
+{
+    if t < s.len() {
+        return s[t];
+    }
+    0
+}
+
+// g + h, as many words as g has.
+pub fn add(p: u32, g: &[u32], h: &[u32], out: &mut [u32])
+    requires { ⌜ (1 ≤ p) × (p < 16777216) × (length (now h) ≡ length (now g)) × (length (now g) ≤ length (now out)) × AllBelow p (now g) × AllBelow p (now h) ⌝ }
+    ensures { λ _. ⌜ now (out .exit) ≡ over (sums p (length (now (g .entry))) (now (g .entry)) (now (h .entry))) (now (out .entry)) ⌝ }
+{
+    let n = g.len();
+    let mut t = 0;
+    while t < n {
+        out[t] = (g[t] + h[t]) % p;
+        t += 1;
+    }
+}
+
+// g − h, as many words as g has.
+pub fn subtract(p: u32, g: &[u32], h: &[u32], out: &mut [u32])
+    requires { ⌜ (1 ≤ p) × (p < 16777216) × (length (now h) ≡ length (now g)) × (length (now g) ≤ length (now out)) × AllBelow p (now g) × AllBelow p (now h) ⌝ }
+    ensures { λ _. ⌜ now (out .exit) ≡ over (differences p (length (now (g .entry))) (now (g .entry)) (now (h .entry))) (now (out .entry)) ⌝ }
+{
+    let n = g.len();
+    let mut t = 0;
+    while t < n {
+        out[t] = (g[t] + (p - h[t])) % p;
+        t += 1;
+    }
+}
+
+// g · h, as many columns as g has.
+pub fn multiply(p: u32, g: &[u32], h: &[u32], out: &mut [u32])
+    requires { ⌜ (1 ≤ p) × (p < 16777216) × (length (now g) ≤ 256) × (length (now h) ≡ length (now g)) × (length (now g) ≤ length (now out))
+        × AllBelow p (now g) × AllBelow p (now h) ⌝ }
+    ensures { λ _. ⌜ now (out .exit) ≡ over (product p (length (now (g .entry))) (now (g .entry)) (now (h .entry))) (now (out .entry)) ⌝ }
+{
+    let n = g.len();
+    let modulus = p as u64;
+    let mut t = 0;
+    while t < n {
+        let sum = dot(g, h, t + 1);
+        out[t] = (sum % modulus) as u32;
+        t += 1;
+    }
+}
+
+// f / g, as many columns as g has; g's first word is not 0. Each column is made of those before it.
+pub fn divide(p: u32, f: &[u32], g: &[u32], out: &mut [u32])
+    requires { ⌜ Prime p × (p < 16777216) × (1 ≤ length (now g)) × (length (now g) ≤ 256) × (length (now g) ≤ length (now out))
+        × AllBelow p (now f) × AllBelow p (now g) × (1 ≤ word (now g) 0) ⌝ }
+    ensures { λ _. ⌜ now (out .exit) ≡ over (quotient p (length (now (g .entry))) (now (f .entry)) (now (g .entry))) (now (out .entry)) ⌝ }
+{
+    let n = g.len();
+    let modulus = p as u64;
+    let inverse = inverse_of(p, g[0]) as u64;
+    let mut t = 0;
+    while t < n {
+        let sum = dot(&g[1..], &out[..t], t);
+        let a = word_or_zero(f, t) as u64;
+        out[t] = ((a + (modulus - sum % modulus)) * inverse % modulus) as u32;
+        t += 1;
+    }
+}

@@ -1,0 +1,92 @@
+// Series modulo a prime: N words each, in slices that the caller lends. Every operation answers every input, by the number of words
+// that it writes to the front of `out` or by a refusal, and then `out` is as it was.
+use numbers::judge::check_operation;
+use numbers::refusal::Answer;
+use numbers::refusal::Refusal;
+use numbers::refusal::Verdict;
+ghost use mathlib.Core.Path.{_≡_};
+ghost use mathlib.Core.List.{[], _∷_};
+ghost use Prim.Native.Nat.{ℕ};
+ghost use lib.ListN.{length};
+ghost use Rattle.numbers.specs.Words.{over};
+ghost use Rattle.numbers.specs.Refusals.{judge, outcome, result, written};
+ghost use Rattle.series.specs.Series.{seriesChecks, inverseChecks, quotientChecks, sums, differences, product, quotient};
+
+pub mod kernel; // the loops, for callers that have judged
+
+// g + h.
+pub fn sum(p: u32, n: u32, g: &[u32], h: &[u32], out: &mut [u32]) -> Answer
+    ensures answer { λ r. ⌜ outcome r ≡ result (judge (seriesChecks p n (now (g .entry)) (now (h .entry)) (length (now (out .entry))))) n ⌝ }
+    ensures words { λ _. ⌜ now (out .exit) ≡ written (judge (seriesChecks p n (now (g .entry)) (now (h .entry)) (length (now (out .entry)))))
+        (over (sums p n (now (g .entry)) (now (h .entry))) (now (out .entry))) (now (out .entry)) ⌝ }
+{
+    if let Verdict::Refuse(r) = check_operation(p, n, g, 1, h, 1, 1, out.len()) {
+        return Answer::Refused(r);
+    }
+    kernel::add(p, g, h, out);
+    Answer::Done(n)
+}
+
+// g − h.
+pub fn difference(p: u32, n: u32, g: &[u32], h: &[u32], out: &mut [u32]) -> Answer
+    ensures answer { λ r. ⌜ outcome r ≡ result (judge (seriesChecks p n (now (g .entry)) (now (h .entry)) (length (now (out .entry))))) n ⌝ }
+    ensures words { λ _. ⌜ now (out .exit) ≡ written (judge (seriesChecks p n (now (g .entry)) (now (h .entry)) (length (now (out .entry)))))
+        (over (differences p n (now (g .entry)) (now (h .entry))) (now (out .entry))) (now (out .entry)) ⌝ }
+{
+    if let Verdict::Refuse(r) = check_operation(p, n, g, 1, h, 1, 1, out.len()) {
+        return Answer::Refused(r);
+    }
+    kernel::subtract(p, g, h, out);
+    Answer::Done(n)
+}
+
+// g · h.
+pub fn multiply(p: u32, n: u32, g: &[u32], h: &[u32], out: &mut [u32]) -> Answer
+    ensures answer { λ r. ⌜ outcome r ≡ result (judge (seriesChecks p n (now (g .entry)) (now (h .entry)) (length (now (out .entry))))) n ⌝ }
+    ensures words { λ _. ⌜ now (out .exit) ≡ written (judge (seriesChecks p n (now (g .entry)) (now (h .entry)) (length (now (out .entry)))))
+        (over (product p n (now (g .entry)) (now (h .entry))) (now (out .entry))) (now (out .entry)) ⌝ }
+{
+    if let Verdict::Refuse(r) = check_operation(p, n, g, 1, h, 1, 1, out.len()) {
+        return Answer::Refused(r);
+    }
+    kernel::multiply(p, g, h, out);
+    Answer::Done(n)
+}
+
+// f / g.
+pub fn divide(p: u32, n: u32, f: &[u32], g: &[u32], out: &mut [u32]) -> Answer
+    ensures answer { λ r. ⌜ outcome r ≡ result (judge (quotientChecks p n (now (f .entry)) (now (g .entry)) (length (now (out .entry))))) n ⌝ }
+    ensures words { λ _. ⌜ now (out .exit) ≡ written (judge (quotientChecks p n (now (f .entry)) (now (g .entry)) (length (now (out .entry)))))
+        (over (quotient p n (now (f .entry)) (now (g .entry))) (now (out .entry))) (now (out .entry)) ⌝ }
+{
+    if let Verdict::Refuse(r) = check_operation(p, n, f, 1, g, 1, 1, out.len()) {
+        return Answer::Refused(r);
+    }
+    if g[0] == 0 {
+        return Answer::Refused(Refusal {
+            number: 12,
+            detail: 0,
+        });
+    }
+    kernel::divide(p, f, g, out);
+    Answer::Done(n)
+}
+
+// 1 / g.
+pub fn invert(p: u32, n: u32, g: &[u32], out: &mut [u32]) -> Answer
+    ensures answer { λ r. ⌜ outcome r ≡ result (judge (inverseChecks p n (now (g .entry)) (length (now (out .entry))))) n ⌝ }
+    ensures words { λ _. ⌜ now (out .exit) ≡ written (judge (inverseChecks p n (now (g .entry)) (length (now (out .entry)))))
+        (over (quotient p n (1 ∷ []) (now (g .entry))) (now (out .entry))) (now (out .entry)) ⌝ }
+{
+    if let Verdict::Refuse(r) = check_operation(p, n, g, 1, &g[..0], 0, 1, out.len()) {
+        return Answer::Refused(r);
+    }
+    if g[0] == 0 {
+        return Answer::Refused(Refusal {
+            number: 12,
+            detail: 0,
+        });
+    }
+    kernel::divide(p, &[1], g, out);
+    Answer::Done(n)
+}
