@@ -151,6 +151,10 @@ operation-pass p N f fRows g gRows rows room e =
       roomy = ltb-false room (rows * N) (pass-check (check 10 (ltb room (rows * N)) (rows * N)) [] (m .1) .0);
     }
 
+-- what a check answered is what its checks judge
+pub judged : (cs : List Check) (v w : Verdict) → v ≡ judge cs → v ≡ w → judge cs ≡ w
+judged cs v w e q = sym e ∙ q
+
 -- after a refusal the answer is that refusal, and the words are as they were
 pub answer-refused : {v : Verdict} (r : Refusal) (n : ℕ) (new old : List ℕ) → v ≡ Refuse r
     → (_≡_ {A = Outcome ℕ} (refused (r .number) (r .detail)) (result v n)) × (old ≡ written v new old)

@@ -1,0 +1,4 @@
+pub mod RowsLaws
+pub mod CheckLaws
+pub mod MulLaws
+pub mod ShiftLaws

@@ -1,0 +1,172 @@
+// The loops over rows, with sums in 64 bits and one reduction for each coefficient. These trust their caller: they have a `requires`, and
+// are for the crates of this repository. All are proved for every modulus below 2^24.
+use series::kernel::dot;
+ghost use mathlib.Core.Path.{_≡_};
+ghost use Prim.Native.Nat.{ℕ, _+_, _-_, _*_, _%_, _≤_, _<_};
+ghost use lib.ListN.{length};
+ghost use Rattle.numbers.specs.Words.{word, over, tabulate, AllBelow};
+ghost use Rattle.rows.specs.Rows.{rowsOf, table, mul, linePower, shifted};
+ghost use Rattle.rows.specs.Passes.{passSum, weightSum, nextWeight};
+
+fn first_row(j: usize, grows: usize) -> usize
+    requires { ⌜ j < 4096 ⌝ }
+    ensures { λ r. ⌜ r ≡ j + 1 - grows ⌝ }
+{
+    if grows <= j {
+        return j + 1 - grows;
+    }
+    0
+}
+
+fn least(a: usize, b: usize) -> usize
+    ensures { λ r. ⌜ r ≡ a - (a - b) ⌝ }
+{
+    if a < b {
+        return a;
+    }
+    b
+}
+
+// For the coefficient of Y^j of f · g: row i of f along row j − i of g, for each i that both have, `count` columns of each from column
+// `skip` on. At most 33 passes, each of at most 256 products below 2^48.
+pub fn passes(
+    f: &[u32],
+    frows: usize,
+    g: &[u32],
+    grows: usize,
+    n: usize,
+    j: usize,
+    skip: usize,
+    count: usize,
+) -> u64
+    requires { ⌜ (length (now f) ≡ frows * n) × (length (now g) ≡ grows * n) × (frows ≤ 33) × (grows ≤ 33) × (n ≤ 256) × (j < 4096) × (skip + count ≤ n)
+        × AllBelow 16777216 (now f) × AllBelow 16777216 (now g) ⌝ }
+    ensures { λ r. ⌜ r ≡ passSum (rowsOf (now (f .entry)) n frows) (rowsOf (now (g .entry)) n grows) j skip count ⌝ }
+{
+    let end = least(j + 1, frows);
+    let mut sum: u64 = 0;
+    let mut i = first_row(j, grows);
+    while i < end {
+        let a = i * n + skip;
+        let b = (j - i) * n + skip;
+        sum += dot(&f[a..], &g[b..], count);
+        i += 1;
+    }
+    sum
+}
+
+// Row j of f · g.
+fn product_row(
+    p: u32,
+    f: &[u32],
+    frows: usize,
+    g: &[u32],
+    grows: usize,
+    n: usize,
+    j: usize,
+    out: &mut [u32],
+)
+    requires { ⌜ (1 ≤ p) × (p < 16777216) × (length (now f) ≡ frows * n) × (length (now g) ≡ grows * n) × (frows ≤ 33) × (grows ≤ 33) × (n ≤ 256)
+        × (j < 4096) × (length (now out) ≡ n) × AllBelow p (now f) × AllBelow p (now g) ⌝ }
+    ensures { λ _. ⌜ now (out .exit) ≡ tabulate n (mul p (rowsOf (now (f .entry)) n frows) (rowsOf (now (g .entry)) n grows) j) ⌝ }
+{
+    let modulus = p as u64;
+    let mut t = 0;
+    while t < n {
+        let sum = passes(f, frows, g, grows, n, j, 0, t + 1);
+        out[t] = (sum % modulus) as u32;
+        t += 1;
+    }
+}
+
+// f · g.
+pub fn multiply(p: u32, f: &[u32], frows: usize, g: &[u32], grows: usize, n: usize, out: &mut [u32])
+    requires { ⌜ (1 ≤ p) × (p < 16777216) × (1 ≤ frows) × (1 ≤ grows) × (frows ≤ 33) × (grows ≤ 33) × (length (now f) ≡ frows * n) × (length (now g) ≡ grows * n)
+        × (n ≤ 256) × ((frows + grows - 1) * n ≤ length (now out)) × AllBelow p (now f) × AllBelow p (now g) ⌝ }
+    ensures { λ _. ⌜ now (out .exit) ≡ over (table (frows + grows - 1) n (mul p (rowsOf (now (f .entry)) n frows) (rowsOf (now (g .entry)) n grows))) (now (out .entry)) ⌝ }
+{
+    let rows = frows + grows - 1;
+    let mut j = 0;
+    while j < rows {
+        let a = j * n;
+        let e = a + n;
+        product_row(p, f, frows, g, grows, n, j, &mut out[a..e]);
+        j += 1;
+    }
+}
+
+// The coefficients of Y^0 of (Y + c)^i, for each i: the powers of c.
+fn first_weights(p: u32, c: u32, weights: &mut [u32])
+    requires { ⌜ (2 ≤ p) × (p < 16777216) × (c < p) × (1 ≤ length (now weights)) ⌝ }
+    ensures { λ _. ⌜ now (weights .exit) ≡ tabulate (length (now (weights .entry))) (λ i. linePower p c i 0) ⌝ }
+{
+    weights[0] = 1;
+    let mut i = 1;
+    while i < weights.len() {
+        weights[i] = ((c as u64) * (weights[i - 1] as u64) % (p as u64)) as u32;
+        i += 1;
+    }
+}
+
+// From the coefficients of Y^j of (Y + c)^i, for each i, to those of Y^(j+1): of (Y + c)^(i+1) it is c times that of (Y + c)^i, and the
+// coefficient of Y^j of (Y + c)^i.
+fn next_weights(p: u32, c: u32, weights: &mut [u32])
+    requires { ⌜ (1 ≤ p) × (p < 16777216) × (c < p) × (1 ≤ length (now weights)) × AllBelow p (now weights) ⌝ }
+    ensures { λ _. ⌜ now (weights .exit) ≡ tabulate (length (now (weights .entry))) (nextWeight p c (word (now (weights .entry)))) ⌝ }
+{
+    let mut before = weights[0];
+    weights[0] = 0;
+    let mut i = 1;
+    while i < weights.len() {
+        let old = weights[i];
+        weights[i] = (((c as u64) * (weights[i - 1] as u64) + before as u64) % (p as u64)) as u32;
+        before = old;
+        i += 1;
+    }
+}
+
+// Column t of the rows of f, each times its weight, not yet reduced.
+fn weighted_sum(f: &[u32], n: usize, weights: &[u32], t: usize) -> u64
+    requires { ⌜ (length (now weights) * n ≤ length (now f)) × (length (now weights) ≤ 33) × (n ≤ 256) × (t < n) × AllBelow 16777216 (now f) × AllBelow 16777216 (now weights) ⌝ }
+    ensures { λ r. ⌜ r ≡ weightSum (now (f .entry)) n (now (weights .entry)) t ⌝ }
+{
+    let mut sum: u64 = 0;
+    let mut i = 0;
+    while i < weights.len() {
+        sum += (f[i * n + t] as u64) * (weights[i] as u64);
+        i += 1;
+    }
+    sum
+}
+
+// A row of the shift: the rows of f, each times its weight.
+fn shift_row(p: u32, f: &[u32], n: usize, weights: &[u32], out: &mut [u32])
+    requires { ⌜ (1 ≤ p) × (p < 16777216) × (length (now weights) * n ≤ length (now f)) × (length (now weights) ≤ 33) × (n ≤ 256) × (length (now out) ≡ n)
+        × AllBelow p (now f) × AllBelow p (now weights) ⌝ }
+    ensures { λ _. ⌜ now (out .exit) ≡ tabulate n (λ t. weightSum (now (f .entry)) n (now (weights .entry)) t % p) ⌝ }
+{
+    let modulus = p as u64;
+    let mut t = 0;
+    while t < n {
+        let sum = weighted_sum(f, n, weights, t);
+        out[t] = (sum % modulus) as u32;
+        t += 1;
+    }
+}
+
+// f(Y + c). The weight of row i of f in row j of the shift is the coefficient of Y^j of (Y + c)^i, which is 0 below row j.
+pub fn shift(p: u32, c: u32, f: &[u32], rows: usize, n: usize, out: &mut [u32])
+    requires { ⌜ (2 ≤ p) × (p < 16777216) × (c < p) × (1 ≤ rows) × (rows ≤ 33) × (n ≤ 256) × (length (now f) ≡ rows * n) × (rows * n ≤ length (now out)) × AllBelow p (now f) ⌝ }
+    ensures { λ _. ⌜ now (out .exit) ≡ over (table rows n (shifted p rows c (rowsOf (now (f .entry)) n rows))) (now (out .entry)) ⌝ }
+{
+    let mut weights = [0u32; 33];
+    first_weights(p, c, &mut weights[..rows]);
+    let mut j = 0;
+    while j < rows {
+        let a = j * n;
+        let e = a + n;
+        shift_row(p, &f[a..], n, &weights[j..rows], &mut out[a..e]);
+        next_weights(p, c, &mut weights[..rows]);
+        j += 1;
+    }
+}
