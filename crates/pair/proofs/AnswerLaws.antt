@@ -1,0 +1,110 @@
+-- What `pair` and `pair_continue` answer and leave.
+--   leave-refused, leave-done   an answer and what it leaves, after a verdict
+--   pair-pass, continue-pass    what the checks say of the input where they pass
+--   lifting-of                  what the lift wants, from the checks
+--   start-done                  column 0 of f over the first words is the pair to one term
+-- Assumes nothing.
+use Prim.Native.Nat.{ℕ, zero, suc, _+_, _*_, _≤_, _<_}
+use native.Mathlib.Omega.{arith}
+use mathlib.Core.Path.{_≡_, refl, sym, ap, subst, _∙_}
+use mathlib.Core.Bool.{false, not, _||_}
+use mathlib.Core.List.{List, [], _∷_, _++_}
+use borrow.Author.Tests.{ltb-false, not-false}
+use lib.Dec.{ltb}
+use lib.ListN.{length, drop, List·getD-append}
+use lib.Seq.{drop-at}
+use Rattle.numbers.specs.Words.{word, over, outside}
+use Rattle.numbers.specs.Refusals.{Check, check, Outcome, accepted, refused, result, judge}
+use Rattle.numbers.specs.declared.refusal.Refusal.{Refusal}
+use Rattle.numbers.specs.declared.refusal.Verdict.{Verdict}
+use Rattle.numbers.specs.declared.refusal.Verdict.the-variants.{Pass, Refuse}
+use Rattle.numbers.proofs.WordsLaws.{length-over}
+use Rattle.numbers.proofs.RefusalsLaws.{pass-parts, pass-check, neither}
+use Rattle.rows.specs.Rows.{table}
+use Rattle.rows.proofs.RowsLaws.{length-table, word-table, row-fits}
+use Rattle.pair.specs.Pair.{order, firstChecks, pairChecks, continueChecks, pairTest, Leaves, PairWords, PairDone}
+use Rattle.pair.specs.Lifting.{startRows, Lifting}
+use Rattle.pair.proofs.TestLaws.{First, first-pass}
+use Rattle.pair.proofs.LiftLaws.{start-words}
+use Rattle.pair.proofs.PairWordsLaws.{test-pair}
+
+pub leave-refused : {v : Verdict} (r : Refusal) (x : ℕ) (Done : Type 0) (s : List ℕ) → v ≡ Refuse r
+    → (_≡_ {A = Outcome ℕ} (refused (r .number) (r .detail)) (result v x)) × Leaves v Done s s
+leave-refused r x Done s e = (subst (λ v. _≡_ {A = Outcome ℕ} (refused (r .number) (r .detail)) (result v x)) (sym e) refl, subst (λ v. Leaves v Done s s) (sym e) refl)
+
+pub leave-done : {v : Verdict} (o x : ℕ) (Done : Type 0) (old new : List ℕ) → v ≡ Pass → o ≡ x → Done → (_≡_ {A = Outcome ℕ} (accepted o) (result v x)) × Leaves v Done old new
+leave-done o x Done old new e q h = (subst (λ v. _≡_ {A = Outcome ℕ} (accepted o) (result v x)) (sym e) (ap accepted q), subst (λ v. Leaves v Done old new) (sym e) h)
+
+pub lifting-of : (p D N : ℕ) (f : List ℕ) (room d t : ℕ) (s : List ℕ) → First p D N f room → d ≡ order D N f → room ≤ length s → PairWords p D N f t s → Lifting p D N f d t s
+lifting-of p D N f room d t s first e fits words =
+    let o = first .operation in
+    let b = first .bound in
+    record {
+      prime = o .inputs .modulus .prime;
+      small = o .inputs .modulus .small;
+      degree-high = let h = o .inputs .high in omega arith;
+      terms-low = o .inputs .terms-low;
+      terms-high = o .inputs .terms-high;
+      f-long = o .inputs .f-long;
+      f-below = o .inputs .f-below;
+      ordered = e;
+      bound = omega arith;
+      roomy = let r = o .roomy in omega arith;
+      words = words;
+    }
+
+pub start-done : (p D N : ℕ) (f : List ℕ) (s₀ s : List ℕ) → First p D N f (length s₀) → s ≡ over (table (D + 1) N (startRows f N)) s₀ → PairDone p D N f 1 s₀ s
+start-done p D N f s₀ s first e =
+    let o = first .operation in
+    let r = o .roomy in
+    let one = o .inputs .terms-low in
+    let xs = table (D + 1) N (startRows f N) in
+    let l : length xs ≡ (D + 1) * N = length-table (D + 1) N (startRows f N) in
+    record {
+      long = ap length e ∙ length-over xs s₀ (omega arith);
+      words = start-words p D N f (o .inputs .modulus .prime) (o .inputs .f-below) (first .bound) s one
+          (λ j g t u.
+          let at : j * N + t < length xs = let z = row-fits j (D + 1) N g in omega arith in
+          ap (λ x. word x (j * N + t)) e ∙ List·getD-append xs (drop (length xs) s₀) 0 (j * N + t) at ∙ word-table (D + 1) N (startRows f N) j t g u);
+      rest = ap (drop ((D + 1) * N)) e ∙ drop-at xs (drop (length xs) s₀) ((D + 1) * N) l ∙ ap (λ n. drop n s₀) l;
+    }
+
+pub record PairInput (p D N : ℕ) (f : List ℕ) (w room : ℕ) : Type 0 where
+  pub first : First p D N f room
+  pub low : 1 ≤ w
+  pub high : w ≤ N
+
+inside : (low high n : ℕ) → outside low high n ≡ false → (low ≤ n) × (n ≤ high)
+inside low high n e = let (a, b) = neither (ltb n low) (ltb high n) e in (ltb-false n low a, ltb-false high n b)
+
+pub pair-pass : (p D N : ℕ) (f : List ℕ) (w room : ℕ) → judge (pairChecks p D N f w room) ≡ Pass → PairInput p D N f w room
+pair-pass p D N f w room e =
+    let m = pass-parts (firstChecks p D N f room) (check 14 (outside 1 N w) 0 ∷ []) e in
+    let b = inside 1 N w (pass-check (check 14 (outside 1 N w) 0) [] (m .1) .0) in
+    record { first = first-pass p D N f room (m .0); low = b .0; high = b .1 }
+
+pub record ContinueInput (p D N : ℕ) (f : List ℕ) (h w : ℕ) (s : List ℕ) : Type 0 where
+  pub input : PairInput p D N f w (length s)
+  pub one : 1 ≤ h
+  pub upto : h ≤ w
+  pub words : PairWords p D N f h s
+
+pub continue-pass : (p D N : ℕ) (f : List ℕ) (h w : ℕ) (s : List ℕ) → judge (continueChecks p D N f h w s) ≡ Pass → ContinueInput p D N f h w s
+continue-pass p D N f h w s e =
+    let c₁₃ = check 13 (outside 1 N h || not (pairTest p D N f h s)) 0 in
+    let c₁₄ = check 14 (outside 1 N w) 0 in
+    let c₁₅ = check 15 (ltb w h) 0 in
+    let m = pass-parts (firstChecks p D N f (length s)) (c₁₃ ∷ c₁₄ ∷ c₁₅ ∷ []) e in
+    let first = first-pass p D N f (length s) (m .0) in
+    let a = pass-check c₁₃ (c₁₄ ∷ c₁₅ ∷ []) (m .1) in
+    let b = pass-check c₁₄ (c₁₅ ∷ []) (a .1) in
+    let c = pass-check c₁₅ [] (b .1) in
+    let (out, test) = neither (outside 1 N h) (not (pairTest p D N f h s)) (a .0) in
+    let hs = inside 1 N h out in
+    let ws = inside 1 N w (b .0) in
+    record {
+      input = record { first = first; low = ws .0; high = ws .1 };
+      one = hs .0;
+      upto = ltb-false w h (c .0);
+      words = test-pair p D N f (first .operation .inputs .modulus .prime) (first .bound) h (hs .0) s (not-false _ test);
+    }

@@ -1,0 +1,10 @@
+pub mod ColumnLaws
+pub mod SolveLaws
+pub mod MonicLaws
+pub mod PairLaws
+pub mod PairWordsLaws
+pub mod LiftLaws
+pub mod ProductLaws
+pub mod TestLaws
+pub mod PartLaws
+pub mod AnswerLaws

@@ -1,0 +1,170 @@
+-- Laws for the checks and the tests: the order as a loop finds it, columns that are gathered, and tests over rows.
+-- Assumes nothing.
+use mathlib.Core.Path.{_≡_, refl, sym, ap, subst, _∙_}
+use mathlib.Core.Logic.{⊎-elim}
+use mathlib.Core.Bool.{Bool, true, false, not, _||_}
+use mathlib.Core.List.{List, [], _∷_}
+use Prim.Native.Nat.{ℕ, zero, suc, _+_, _-_, _*_, _%_, _≤_, _<_, zero-le}
+use native.Mathlib.Nat.{add-zero, zero-add, le-of-suc-le-suc}
+use native.Mathlib.Omega.{arith}
+use borrow.Author.Tests.{lt-ltb, le-ltb, ltb-true, ltb-false, leb-true, eq-eqb, ne-eqb, eqb-false, not-true}
+use lib.Dec.{leb, ltb, eqb}
+use lib.ListN.{length, getD, take, drop, length-drop}
+use lib.Seq.{getD-take, getD-drop, length-take-le}
+use Rattle.numbers.specs.Words.{word, choose, firstLarge, outside, allTo, all}
+use Rattle.numbers.specs.Refusals.{Check, judge, check, operationChecks}
+use Rattle.numbers.specs.declared.refusal.Verdict.the-variants.{Pass}
+use Rattle.numbers.proofs.WordsLaws.{lt-or-ge, first-is, none-large, true-false}
+use Rattle.numbers.proofs.TestsLaws.{not-both, allTo-at, allTo-false, at-allTo}
+use Rattle.numbers.proofs.RefusalsLaws.{pass-parts, pass-check, Operation, operation-pass}
+use Rattle.rows.specs.Rows.{rowsOf}
+use Rattle.rows.proofs.RowsLaws.{rows-below}
+use Rattle.pair.specs.Pair.{orderOf, order, rowsBelow, productTest, pairTest, firstChecks}
+use Rattle.pair.specs.Column.{middleSum}
+use Rattle.pair.specs.Lifting.{firstOnly}
+use Rattle.pair.proofs.PairWordsLaws.{by-row}
+
+-- row j of what `gather` writes
+abbrev pub gatherAt : (p : ℕ) (f low : List ℕ) (m : ℕ) (high : List ℕ) (k n t : ℕ) → ℕ → ℕ
+gatherAt p f low m high k n t j = (word f (j * n + t) + (p - middleSum (rowsOf low n m) (rowsOf high n k) j t % p)) % p
+
+-- the row that is not 0 at X = 0, and below which every row is
+pub order-is : (f : List ℕ) (n rows r : ℕ) → r ≤ rows → ((k : ℕ) → k < r → word f (k * n) ≡ 0) → (r < rows → word f (r * n) ≡ 0 → ⊥)
+    → r ≡ orderOf rows (rowsOf f n rows)
+unfolding orderOf
+order-is f n rows r h zeros there =
+    let at : (k : ℕ) → k < rows → rowsOf f n rows k 0 ≡ word f (k * n) = λ k l. rows-below f n rows k 0 l ∙ ap (word f) (add-zero (k * n)) in
+    sym (first-is (λ j. not (eqb (rowsOf f n rows j 0) 0)) 0 rows r zero-le (omega arith)
+    (λ l. ap not (ne-eqb (rowsOf f n rows r 0) 0 (λ e. there (omega arith) (sym (at r (omega arith)) ∙ e))))
+    (λ k _ l e. eqb-false (rowsOf f n rows k 0) 0 (not-true _ e) (at k (omega arith) ∙ zeros k l)))
+
+-- first, 0, 0, ..
+pub first-only-later : (x t : ℕ) → 1 ≤ t → 0 ≡ firstOnly x t
+first-only-later x zero h = absurd (let z : ⊥ = omega arith in z)
+first-only-later x (suc t) h = refl
+
+-- row j of Y^d · A
+pub leading-none : (j d x : ℕ) → j < d → 0 ≡ choose (ltb j d) 0 x
+leading-none j d x l = rw (lt-ltb j d l)
+
+pub leading-row : (s : List ℕ) (n k j d t : ℕ) → d ≤ j → j < d + k → word s ((j - d) * n + t) ≡ choose (ltb j d) 0 (rowsOf s n k (j - d) t)
+leading-row s n k j d t l h = rw (le-ltb j d l) (sym (rows-below s n k (j - d) t (omega arith)))
+
+-- the first large word is large
+head-large : (p x n t : ℕ) (s : List ℕ) (b : Bool) → leb p x ≡ b → (t < n → p ≤ word s t) → choose b 0 (suc t) < suc n → p ≤ word (x ∷ s) (choose b 0 (suc t))
+head-large p x n t s true e h l = leb-true p x e
+head-large p x n t s false e h l = h (le-of-suc-le-suc l)
+
+pub large-there : (p : ℕ) (s : List ℕ) → firstLarge p s < length s → p ≤ word s (firstLarge p s)
+unfolding firstLarge
+large-there p [] h = absurd (let z : ⊥ = omega arith in z)
+large-there p (x ∷ xs) h = head-large p x (length xs) (firstLarge p xs) xs (leb p x) refl (large-there p xs) h
+
+-- the columns from..to − 1 of row j, as `first_large` is lent them
+module _ (q : ℕ) (s : List ℕ) (n j from to : ℕ) (ordered : from ≤ to) (fits : j * n + to ≤ length s) where
+  abbrev pub columns : List ℕ
+  columns = take (j * n + to - (j * n + from)) (drop (j * n + from) s)
+
+  length-columns : length columns ≡ to - from
+  length-columns =
+      let e : j * n + to - (j * n + from) ≡ to - from = omega arith in
+      length-take-le (j * n + to - (j * n + from)) (drop (j * n + from) s) (simp length-drop (omega arith)) ∙ e
+
+  column-word : (t : ℕ) → t < to - from → word columns t ≡ word s (j * n + (from + t))
+  column-word t l =
+      getD-take (j * n + to - (j * n + from)) (drop (j * n + from) s) t 0 (omega arith) ∙ getD-drop (j * n + from) s t 0
+      ∙ ap (word s) (let e : j * n + from + t ≡ j * n + (from + t) = omega arith in e)
+
+  pub columns-pass : to - from ≤ firstLarge q columns → allTo (to - from) (λ t. ltb (word s (j * n + (from + t))) q) ≡ true
+  columns-pass h = at-allTo (to - from) _ (λ t l.
+      lt-ltb _ q (subst (λ x. x < q) (column-word t l) (none-large q columns (omega (arith, length-columns)) t (omega (arith, length-columns)))))
+
+  pub columns-fail : firstLarge q columns < to - from → allTo (to - from) (λ t. ltb (word s (j * n + (from + t))) q) ≡ false
+  columns-fail h =
+      allTo-false (to - from) _ (firstLarge q columns) h
+      (le-ltb _ q (subst (λ x. q ≤ x) (column-word (firstLarge q columns) h) (large-there q columns (omega (arith, length-columns)))))
+
+pub rows-fail : (q : ℕ) (s : List ℕ) (n rows from to j : ℕ) → j < rows → allTo (to - from) (λ t. ltb (word s (j * n + (from + t))) q) ≡ false
+    → false ≡ rowsBelow q s n rows from to
+unfolding rowsBelow
+rows-fail q s n rows from to j l e = sym (allTo-false rows _ j l e)
+
+pub rows-pass : (q : ℕ) (s : List ℕ) (n rows from to j : ℕ) → j ≡ rows → ((k : ℕ) → k < j → allTo (to - from) (λ t. ltb (word s (k * n + (from + t))) q) ≡ true)
+    → true ≡ rowsBelow q s n rows from to
+unfolding rowsBelow
+rows-pass q s n rows from to j e h = sym (at-allTo rows _ (λ k l. h k (omega arith)))
+
+-- the tests of `pairTest`, at a given order
+abbrev tests : (p D N : ℕ) (f : List ℕ) (k : ℕ) (s : List ℕ) → ℕ → List Bool
+tests p D N f k s d =
+    rowsBelow p s N (D + 1) 0 k
+    ∷ rowsBelow 1 s N (D + 1) k N
+    ∷ rowsBelow 1 s N d 0 1
+    ∷ not (eqb (word s (d * N)) 0)
+    ∷ productTest p D N f d k s
+    ∷ []
+
+all-fails : (bs : List Bool) (i : ℕ) → getD bs i true ≡ false → all bs ≡ false
+unfolding all
+all-fails [] i e = true-false e
+all-fails (b ∷ bs) zero e = rw e
+all-fails (b ∷ bs) (suc i) e = not-both b (all bs) (all-fails bs i e)
+
+module _ (p D N : ℕ) (f : List ℕ) (k : ℕ) (s : List ℕ) (d : ℕ) (o : d ≡ order D N f) where
+  pair-test-is : pairTest p D N f k s ≡ all (tests p D N f k s d)
+  unfolding pairTest
+  pair-test-is = ap (λ (x : ℕ). all (tests p D N f k s x)) (sym o)
+
+  pub pair-fails-first : rowsBelow p s N (D + 1) 0 k ≡ false → false ≡ pairTest p D N f k s
+  pair-fails-first e = sym (pair-test-is ∙ all-fails (tests p D N f k s d) 0 e)
+
+  pub pair-fails-rest : rowsBelow 1 s N (D + 1) k N ≡ false → false ≡ pairTest p D N f k s
+  pair-fails-rest e = sym (pair-test-is ∙ all-fails (tests p D N f k s d) 1 e)
+
+  pub pair-fails-low : rowsBelow 1 s N d 0 1 ≡ false → false ≡ pairTest p D N f k s
+  pair-fails-low e = sym (pair-test-is ∙ all-fails (tests p D N f k s d) 2 e)
+
+  pub pair-fails-unit : word s (d * N) ≡ 0 → false ≡ pairTest p D N f k s
+  pair-fails-unit e = sym (pair-test-is ∙ all-fails (tests p D N f k s d) 3 (ap not (eq-eqb (word s (d * N)) 0 e)))
+
+  pub pair-last : (b : Bool) → rowsBelow p s N (D + 1) 0 k ≡ true → rowsBelow 1 s N (D + 1) k N ≡ true → rowsBelow 1 s N d 0 1 ≡ true → (word s (d * N) ≡ 0 → ⊥)
+      → b ≡ productTest p D N f d k s → b ≡ pairTest p D N f k s
+  unfolding all
+  pair-last b e₀ e₁ e₂ ne e = sym (pair-test-is ∙ rw (e₀, e₁, e₂, ne-eqb (word s (d * N)) 0 ne, ← e) (last b))
+    where
+      last : (b : Bool) → choose b true false ≡ b
+      last true = refl
+      last false = refl
+
+-- the words below column h are below q, and the others are 0: all are below q
+pub words-below : (q : ℕ) (s : List ℕ) (N rows h : ℕ) → 1 ≤ q → 1 ≤ h → h ≤ N → rowsBelow q s N rows 0 h ≡ true → rowsBelow 1 s N rows h N ≡ true
+    → (i : ℕ) → i < rows * N → word s i < q
+unfolding rowsBelow
+words-below q s N rows h pos one fits e g = by-row rows N (λ i. word s i < q) (omega arith) (λ j l t u.
+    ⊎-elim
+    (λ (v : t < h). subst (λ x. word s (j * N + x) < q) (zero-add t) (ltb-true _ _ (allTo-at (h - 0) _ (allTo-at rows _ e j l) t (omega arith))))
+    (λ (v : h ≤ t).
+    let z = subst (λ x. word s (j * N + x) < 1) (let y : h + (t - h) ≡ t = omega arith in y) (ltb-true _ _ (allTo-at (N - h) _ (allTo-at rows _ g j l) (t - h) (omega arith))) in
+    omega arith)
+    (lt-or-ge t h))
+
+-- rows 13, 14 and 15 of `continueChecks`
+abbrev pub continueRows : (p D N : ℕ) (f : List ℕ) (h w : ℕ) (old : List ℕ) → List Check
+continueRows p D N f h w old =
+    check 13 (outside 1 N h || not (pairTest p D N f h old)) 0
+    ∷ check 14 (outside 1 N w) 0
+    ∷ check 15 (ltb w h) 0
+    ∷ []
+
+-- what rows 1 to 11 let pass
+pub record First (p D N : ℕ) (f : List ℕ) (room : ℕ) : Type 0 where
+  pub operation : Operation p N f (D + 1) [] 0 (D + 1) room
+  pub bound : order D N f ≤ D
+
+pub first-pass : (p D N : ℕ) (f : List ℕ) (room : ℕ) → judge (firstChecks p D N f room) ≡ Pass → First p D N f room
+first-pass p D N f room e =
+    let m = pass-parts (operationChecks p N f (D + 1) [] 0 (D + 1) room) _ e in
+    record {
+      operation = operation-pass p N f (D + 1) [] 0 (D + 1) room (m .0);
+      bound = ltb-false D (order D N f) (pass-check (check 11 (ltb D (order D N f)) 0) [] (m .1) .0);
+    }

@@ -1,0 +1,139 @@
+-- `pair::lift` meets its contract. The loop's invariant: out holds the pair to t terms, and past its words what it had.
+-- Assumes nothing.
+use mathlib.Core.Path.{_≡_, sym, subst}
+use Prim.Native.Nat.{_≤_, _-_}
+use native.Mathlib.Omega.{arith}
+use lib.ListN.{length}
+use lib.Seq.{length-take-le}
+use Rattle.rows.proofs.RowsLaws.{zeros}
+use Rattle.pair.specs.Pair.{PairDone}
+use Rattle.pair.proofs.LiftLaws.{seam-small, seam-fits, load-fits, front-long, front-fits, front-some, front-below, front-value, whole-fits, front-prepared, done-none, done-step, lifting-step}
+use borrow.Author.Needs.{needs}
+use Rattle.pair.proofs.lift.Statement.{statement}
+use Rattle.pair.proofs.lift.Tie as tie
+
+abbrev Inv-loop : tie.InvT-loop
+Inv-loop p f deg n d from to out₀ k seam a inverse t₀ out t = (from ≤ t) × (t ≤ to) × PairDone p deg n f t out₀ out
+
+abbrev μ-loop : tie.MeasureT-loop
+μ-loop p f deg n d from to out₀ k seam a inverse t₀ out t = to - t
+
+add-k : tie.Need-add-k Inv-loop μ-loop
+add-k c = let h = c .before .before .pre .0 .degree-high in omega arith
+
+sub-k : tie.Need-sub-k Inv-loop μ-loop
+sub-k c = let h = c .before .before .pre .0 .bound in omega arith
+
+mul-seam : tie.Need-mul-seam Inv-loop μ-loop
+mul-seam c = record { fits = omega (arith, seam-small (c .before .before .args .p) (c .before .before .args .deg) (c .before .before .args .n) (c .before .before .args .f .now) (c .before .before .args .d) (c .before .before .args .from) (c .before .before .args .out .now) (c .before .before .pre .0)) }
+
+mul-load-column : tie.Need-mul-load-column Inv-loop μ-loop
+mul-load-column c = record { fits = omega (arith, seam-small (c .before .before .args .p) (c .before .before .args .deg) (c .before .before .args .n) (c .before .before .args .f .now) (c .before .before .args .d) (c .before .before .args .from) (c .before .before .args .out .now) (c .before .before .pre .0)) }
+
+sub-load-column : tie.Need-sub-load-column Inv-loop μ-loop
+sub-load-column c = omega (arith, seam-fits (c .before .before .args .p) (c .before .before .args .deg) (c .before .before .args .n) (c .before .before .args .f .now) (c .before .before .args .d) (c .before .before .args .from) (c .before .before .args .out .now) (c .before .before .pre .0))
+
+part-load-column-start : tie.Need-part-load-column-start Inv-loop μ-loop
+part-load-column-start c = omega (arith, seam-fits (c .before .before .args .p) (c .before .before .args .deg) (c .before .before .args .n) (c .before .before .args .f .now) (c .before .before .args .d) (c .before .before .args .from) (c .before .before .args .out .now) (c .before .before .pre .0))
+
+part-load-column-end : tie.Need-part-load-column-end Inv-loop μ-loop
+part-load-column-end c = omega (arith, seam-fits (c .before .before .args .p) (c .before .before .args .deg) (c .before .before .args .n) (c .before .before .args .f .now) (c .before .before .args .d) (c .before .before .args .from) (c .before .before .args .out .now) (c .before .before .pre .0))
+
+array-borrow-prefix-a : tie.Need-array-borrow-prefix-a Inv-loop μ-loop
+array-borrow-prefix-a c = let h = c .before .before .before .pre .0 .degree-high in omega arith
+
+slice-aggregate-load-column : tie.Need-slice-aggregate-load-column Inv-loop μ-loop
+slice-aggregate-load-column c = sym (length-take-le _ zeros (let h = c .before .before .before .before .pre .0 .degree-high in omega arith))
+
+load-column-requires : tie.Need-load-column-requires Inv-loop μ-loop
+load-column-requires c κs =
+    let h = c .before .before .before .before .pre .0 .degree-high in
+    let one = c .before .before .before .before .pre .0 .terms-low in
+    let fits = load-fits (c .before .before .before .before .args .p) (c .before .before .before .before .args .deg) (c .before .before .before .before .args .n) (c .before .before .before .before .args .f .now) (c .before .before .before .before .args .d) (c .before .before .before .before .args .from) (c .before .before .before .before .args .out .now) (c .before .before .before .before .pre .0) zeros (omega arith) in
+    (c .before .before .before .before .pre .0 .terms-high, omega arith, fits .0, fits .1)
+
+array-borrow-prefix-a-2 : tie.Need-array-borrow-prefix-a-2 Inv-loop μ-loop
+array-borrow-prefix-a-2 c = front-fits (c .before .before .before .before .before .before .args .p) (c .before .before .before .before .before .before .args .deg) (c .before .before .before .before .before .before .args .n) (c .before .before .before .before .before .before .args .f .now) (c .before .before .before .before .before .before .args .d) (c .before .before .before .before .before .before .args .from) (c .before .before .before .before .before .before .args .out .now) (c .before .before .before .before .before .before .pre .0) zeros _ (let h = c .before .before .before .before .before .before .pre .0 .degree-high in omega arith) (c .before .load-column .ensures)
+
+slice-aggregate-prepare : tie.Need-slice-aggregate-prepare Inv-loop μ-loop
+slice-aggregate-prepare c = sym (front-long (c .before .before .before .before .before .before .before .args .p) (c .before .before .before .before .before .before .before .args .deg) (c .before .before .before .before .before .before .before .args .n) (c .before .before .before .before .before .before .before .args .f .now) (c .before .before .before .before .before .before .before .args .d) (c .before .before .before .before .before .before .before .args .from) (c .before .before .before .before .before .before .before .args .out .now) (c .before .before .before .before .before .before .before .pre .0) zeros _ (let h = c .before .before .before .before .before .before .before .pre .0 .degree-high in omega arith) (c .before .before .load-column .ensures))
+
+prepare-requires : tie.Need-prepare-requires Inv-loop μ-loop
+prepare-requires c κs =
+    let h = c .before .before .before .before .before .before .before .pre .0 .degree-high in
+    let two = c .before .before .before .before .before .before .before .pre .0 .prime .two-le in (
+      c .before .before .before .before .before .before .before .pre .0 .prime,
+      c .before .before .before .before .before .before .before .pre .0 .small,
+      omega arith,
+      front-some (c .before .before .before .before .before .before .before .args .p) (c .before .before .before .before .before .before .before .args .deg) (c .before .before .before .before .before .before .before .args .n) (c .before .before .before .before .before .before .before .args .f .now) (c .before .before .before .before .before .before .before .args .d) (c .before .before .before .before .before .before .before .args .from) (c .before .before .before .before .before .before .before .args .out .now) (c .before .before .before .before .before .before .before .pre .0) zeros _ (omega arith) (c .before .before .load-column .ensures),
+      front-below (c .before .before .before .before .before .before .before .args .p) (c .before .before .before .before .before .before .before .args .deg) (c .before .before .before .before .before .before .before .args .n) (c .before .before .before .before .before .before .before .args .f .now) (c .before .before .before .before .before .before .before .args .d) (c .before .before .before .before .before .before .before .args .from) (c .before .before .before .before .before .before .before .args .out .now) (c .before .before .before .before .before .before .before .pre .0) zeros _ (omega arith) (c .before .before .load-column .ensures),
+      front-value (c .before .before .before .before .before .before .before .args .p) (c .before .before .before .before .before .before .before .args .deg) (c .before .before .before .before .before .before .before .args .n) (c .before .before .before .before .before .before .before .args .f .now) (c .before .before .before .before .before .before .before .args .d) (c .before .before .before .before .before .before .before .args .from) (c .before .before .before .before .before .before .before .args .out .now) (c .before .before .before .before .before .before .before .pre .0) zeros _ (omega arith) (c .before .before .load-column .ensures),
+    )
+
+loop-holds : tie.Need-loop-holds Inv-loop μ-loop
+loop-holds c = (omega arith, omega arith, done-none _ _ _ _ _ _ (c .before .before .before .before .before .before .before .before .before .pre .0 .words))
+
+sub-lift-column : tie.Need-sub-lift-column Inv-loop μ-loop
+sub-lift-column c = let b = c .before .before .before .before .before .before .before .before .before .before .before .pre .0 .bound in omega arith
+
+part-lift-column-start : tie.Need-part-lift-column-start Inv-loop μ-loop
+part-lift-column-start c = let b = c .before .before .before .before .before .before .before .before .before .before .before .before .pre .0 .bound in omega arith
+
+part-lift-column-end : tie.Need-part-lift-column-end Inv-loop μ-loop
+part-lift-column-end c = whole-fits (c .before .before .before .before .before .before .before .before .before .before .before .before .args .p) (c .before .before .before .before .before .before .before .before .before .before .before .before .args .deg) (c .before .before .before .before .before .before .before .before .before .before .before .before .args .n) (c .before .before .before .before .before .before .before .before .before .before .before .before .args .f .now) (c .before .before .before .before .before .before .before .before .before .before .before .before .args .d) (c .before .before .before .before .before .before .before .before .before .before .before .before .args .from) (c .before .before .before .before .before .before .before .before .before .before .before .before .args .out .now) (c .before .before .before .before .before .before .before .before .before .before .before .before .pre .0) zeros _ (let h = c .before .before .before .before .before .before .before .before .before .before .before .before .pre .0 .degree-high in omega arith) (c .before .before .before .before .before .before .before .load-column .ensures) _ (c .before .before .before .before .prepare .ensures .0) (c .before .before .before .before .prepare .ensures .1)
+
+lift-column-requires : tie.Need-lift-column-requires Inv-loop μ-loop
+lift-column-requires c κs =
+    let h = c .before .before .before .before .before .before .before .before .before .before .before .before .before .before .pre .0 .degree-high in (
+      lifting-step (c .before .before .before .before .before .before .before .before .before .before .before .before .before .before .args .p) (c .before .before .before .before .before .before .before .before .before .before .before .before .before .before .args .deg) (c .before .before .before .before .before .before .before .before .before .before .before .before .before .before .args .n) (c .before .before .before .before .before .before .before .before .before .before .before .before .before .before .args .f .now) (c .before .before .before .before .before .before .before .before .before .before .before .before .before .before .args .d) (c .before .before .before .before .before .before .before .before .before .before .before .before .before .before .args .from) (c .before .before .before .before .loop .t) (c .before .before .before .before .before .before .before .before .before .before .before .before .before .before .args .out .now) (c .before .before .before .before .loop .out) (c .before .before .before .before .before .before .before .before .before .before .before .before .before .before .pre .0) (c .before .before .before .before .loop .inv .2),
+      front-prepared (c .before .before .before .before .before .before .before .before .before .before .before .before .before .before .args .p) (c .before .before .before .before .before .before .before .before .before .before .before .before .before .before .args .deg) (c .before .before .before .before .before .before .before .before .before .before .before .before .before .before .args .n) (c .before .before .before .before .before .before .before .before .before .before .before .before .before .before .args .f .now) (c .before .before .before .before .before .before .before .before .before .before .before .before .before .before .args .d) (c .before .before .before .before .before .before .before .before .before .before .before .before .before .before .args .from) (c .before .before .before .before .before .before .before .before .before .before .before .before .before .before .args .out .now) (c .before .before .before .before .before .before .before .before .before .before .before .before .before .before .pre .0) zeros _ (omega arith) (c .before .before .before .before .before .before .before .before .before .load-column .ensures) _ (c .before .before .before .before .before .before .prepare .ensures .0) (c .before .before .before .before .before .before .prepare .ensures .1),
+      omega arith,
+      omega arith,
+    )
+
+add-t : tie.Need-add-t Inv-loop μ-loop
+add-t c = search needs
+
+loop-less : tie.Need-loop-less Inv-loop μ-loop
+loop-less c = search needs
+
+loop-again : tie.Need-loop-again Inv-loop μ-loop
+loop-again c = (omega arith, omega arith, done-step _ _ _ _ (c .before .before .before .before .before .before .before .loop .t) _ _ _ _ (c .before .before .before .before .before .before .before .loop .inv .2) (c .before .before .lift-column .ensures))
+
+same-length : tie.Need-same-length Inv-loop μ-loop
+same-length c = c .before .loop .inv .2 .long
+
+returns : tie.Need-returns Inv-loop μ-loop
+returns c =
+    let e : c .before .loop .t ≡ c .before .before .before .before .before .before .before .before .before .before .before .args .to = omega arith in
+    subst (λ x. PairDone (c .before .before .before .before .before .before .before .before .before .before .before .args .p) (c .before .before .before .before .before .before .before .before .before .before .before .args .deg) (c .before .before .before .before .before .before .before .before .before .before .before .args .n) (c .before .before .before .before .before .before .before .before .before .before .before .args .f .now) x (c .before .before .before .before .before .before .before .before .before .before .before .args .out .now) (c .before .loop .out)) e (c .before .loop .inv .2)
+
+pub lift-spec : {M : Type 1} → statement M
+lift-spec =
+    tie.close
+    (tie.spec
+    Inv-loop
+    μ-loop
+    add-k
+    sub-k
+    mul-seam
+    mul-load-column
+    sub-load-column
+    part-load-column-start
+    part-load-column-end
+    array-borrow-prefix-a
+    slice-aggregate-load-column
+    load-column-requires
+    array-borrow-prefix-a-2
+    slice-aggregate-prepare
+    prepare-requires
+    loop-holds
+    sub-lift-column
+    part-lift-column-start
+    part-lift-column-end
+    lift-column-requires
+    add-t
+    loop-less
+    loop-again
+    same-length
+    returns)

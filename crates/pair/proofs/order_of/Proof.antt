@@ -1,0 +1,62 @@
+-- `pair::order_of` meets its contract. The loop's invariant: the rows before j are 0 at X = 0.
+-- Assumes nothing.
+use mathlib.Core.Path.{_≡_}
+use Prim.Native.Nat.{ℕ, _≤_, _<_, _-_, _*_}
+use native.Mathlib.Omega.{arith}
+use borrow.Author.Count.{below-more}
+use Rattle.numbers.specs.Words.{word}
+use Rattle.pair.proofs.ColumnLaws.{row-before}
+use Rattle.rows.proofs.RowsLaws.{rows-small}
+use Rattle.pair.proofs.TestLaws.{order-is}
+use borrow.Author.Needs.{needs}
+use Rattle.pair.proofs.order_of.Statement.{statement}
+use Rattle.pair.proofs.order_of.Tie as tie
+
+abbrev Inv-loop : tie.InvT-loop
+Inv-loop f n rows j₀ j = (j ≤ rows) × ((k : ℕ) → k < j → word f (k * n) ≡ 0)
+
+abbrev μ-loop : tie.MeasureT-loop
+μ-loop f n rows j₀ j = rows - j
+
+loop-holds : tie.Need-loop-holds Inv-loop μ-loop
+loop-holds c = (omega arith, λ k l. omega arith)
+
+mul-if1 : tie.Need-mul-if1 Inv-loop μ-loop
+mul-if1 c = omega (arith, row-before (c .before .loop .j) (c .before .before .args .rows) (c .before .before .args .n) (omega arith), rows-small (c .before .before .args .rows) (c .before .before .args .n) (omega arith) (omega arith))
+
+mul-if1-2 : tie.Need-mul-if1-2 Inv-loop μ-loop
+mul-if1-2 c = omega (arith, row-before (c .before .loop .j) (c .before .before .args .rows) (c .before .before .args .n) (omega arith), rows-small (c .before .before .args .rows) (c .before .before .args .n) (omega arith) (omega arith))
+
+shared-slice-read-if1 : tie.Need-shared-slice-read-if1 Inv-loop μ-loop
+shared-slice-read-if1 c = omega (arith, row-before (c .before .before .loop .j) (c .before .before .before .args .rows) (c .before .before .before .args .n) (omega arith))
+
+add-j : tie.Need-add-j Inv-loop μ-loop
+add-j c = search needs
+
+loop-less : tie.Need-loop-less Inv-loop μ-loop
+loop-less c = search needs
+
+loop-again : tie.Need-loop-again Inv-loop μ-loop
+loop-again c = (omega arith, below-more (λ k. word (c .before .before .before .before .args .f .now) (k * c .before .before .before .before .args .n) ≡ 0) _ (c .before .before .before .loop .inv .1) (c .if1 .left))
+
+returns : tie.Need-returns Inv-loop μ-loop
+returns c = order-is _ _ _ _ (c .before .loop .inv .0) (c .before .loop .inv .1) (λ h. omega arith)
+
+returns-2 : tie.Need-returns-2 Inv-loop μ-loop
+returns-2 c = order-is _ _ _ _ (c .before .before .before .loop .inv .0) (c .before .before .before .loop .inv .1) (λ h. c .if1 .taken)
+
+pub order-of-spec : {M : Type 1} → statement M
+order-of-spec =
+    tie.close
+    (tie.spec
+    Inv-loop
+    μ-loop
+    loop-holds
+    mul-if1
+    mul-if1-2
+    shared-slice-read-if1
+    add-j
+    loop-less
+    loop-again
+    returns
+    returns-2)

@@ -1,0 +1,94 @@
+-- `pair::start` meets its contract. The loop's invariant: out has the rows before j, and past them what it had.
+-- Assumes nothing.
+use mathlib.Core.Path.{ap, _∙_}
+use Prim.Native.Nat.{ℕ, _≤_, _-_, _*_}
+use native.Mathlib.Omega.{arith}
+use Rattle.numbers.specs.Words.{word, tabulate}
+use Rattle.numbers.proofs.WordsLaws.{Writing, writing-none}
+use Rattle.rows.specs.Rows.{table}
+use Rattle.rows.proofs.RowsLaws.{row-fits, length-part, writing-row, writing-rows}
+use Rattle.pair.specs.Lifting.{firstOnly, startRows}
+use borrow.Author.Needs.{needs}
+use Rattle.pair.proofs.start.Statement.{statement}
+use Rattle.pair.proofs.start.Tie as tie
+
+abbrev Inv-loop : tie.InvT-loop
+Inv-loop f n rows out₀ j₀ out j = (j ≤ rows) × Writing (table j n (startRows f n)) out₀ out
+
+abbrev μ-loop : tie.MeasureT-loop
+μ-loop f n rows out₀ j₀ out j = rows - j
+
+loop-holds : tie.Need-loop-holds Inv-loop μ-loop
+unfolding table
+loop-holds c = (omega arith, writing-none _)
+
+mul-a : tie.Need-mul-a Inv-loop μ-loop
+mul-a c = omega (arith, row-fits (c .before .loop .j) (c .before .before .before .before .args .rows) (c .before .before .before .before .args .n) (omega arith))
+
+add-e : tie.Need-add-e Inv-loop μ-loop
+add-e c = omega (arith, row-fits (c .before .loop .j) (c .before .before .before .before .args .rows) (c .before .before .before .before .args .n) (omega arith))
+
+mul-start-row : tie.Need-mul-start-row Inv-loop μ-loop
+mul-start-row c = omega (arith, row-fits (c .before .loop .j) (c .before .before .before .before .args .rows) (c .before .before .before .before .args .n) (omega arith))
+
+shared-slice-read-start-row : tie.Need-shared-slice-read-start-row Inv-loop μ-loop
+shared-slice-read-start-row c = omega (arith, row-fits (c .before .before .loop .j) (c .before .before .before .before .before .args .rows) (c .before .before .before .before .before .args .n) (omega arith))
+
+mul-start-row-2 : tie.Need-mul-start-row-2 Inv-loop μ-loop
+mul-start-row-2 c = omega (arith, row-fits (c .before .before .loop .j) (c .before .before .before .before .before .args .rows) (c .before .before .before .before .before .args .n) (omega arith))
+
+sub-start-row : tie.Need-sub-start-row Inv-loop μ-loop
+sub-start-row c = omega (arith, row-fits (c .before .before .loop .j) (c .before .before .before .before .before .args .rows) (c .before .before .before .before .before .args .n) (omega arith))
+
+part-start-row-start : tie.Need-part-start-row-start Inv-loop μ-loop
+part-start-row-start c = omega (arith, row-fits (c .before .before .loop .j) (c .before .before .before .before .before .args .rows) (c .before .before .before .before .before .args .n) (omega arith))
+
+part-start-row-end : tie.Need-part-start-row-end Inv-loop μ-loop
+part-start-row-end c = omega (arith, row-fits (c .before .before .loop .j) (c .before .before .before .before .before .args .rows) (c .before .before .before .before .before .args .n) (omega arith))
+
+start-row-requires : tie.Need-start-row-requires Inv-loop μ-loop
+start-row-requires c κs =
+    let a = c .before .before .before .before .before .before .args in
+    let l = row-fits (c .before .before .before .loop .j) (a .rows) (a .n) (omega arith) in
+    omega (arith, length-part (c .before .before .before .loop .out) (c .before .before .before .loop .j * a .n) (a .n) (omega arith))
+
+add-j : tie.Need-add-j Inv-loop μ-loop
+add-j c = search needs
+
+loop-less : tie.Need-loop-less Inv-loop μ-loop
+loop-less c = search needs
+
+loop-again : tie.Need-loop-again Inv-loop μ-loop
+loop-again c =
+    let a = c .before .before .before .before .before .before .before .before .before .args in
+    let l = row-fits (c .before .before .before .before .before .before .loop .j) (a .rows) (a .n) (omega arith) in
+    let q = c .before .before .start-row .ensures ∙ ap (λ (k : ℕ). tabulate k (firstOnly (word (a .f .now) (c .before .before .before .before .before .before .loop .j * a .n)))) (length-part (c .before .before .before .before .before .before .loop .out) (c .before .before .before .before .before .before .loop .j * a .n) (a .n) (omega arith)) in
+    (omega arith, writing-row _ _ (startRows (a .f .now) (a .n)) _ _ _ (c .before .before .before .before .before .before .loop .inv .1) q (omega arith))
+
+same-length : tie.Need-same-length Inv-loop μ-loop
+same-length c = search needs
+
+returns : tie.Need-returns Inv-loop μ-loop
+returns c = writing-rows _ _ _ _ _ _ (c .before .loop .inv .1) (omega arith)
+
+pub start-spec : {M : Type 1} → statement M
+start-spec =
+    tie.close
+    (tie.spec
+    Inv-loop
+    μ-loop
+    loop-holds
+    mul-a
+    add-e
+    mul-start-row
+    shared-slice-read-start-row
+    mul-start-row-2
+    sub-start-row
+    part-start-row-start
+    part-start-row-end
+    start-row-requires
+    add-j
+    loop-less
+    loop-again
+    same-length
+    returns)

@@ -1,0 +1,32 @@
+-- What the loops of the lift know. No public contract cites these.
+--   firstOnly x t           x, 0, 0, ..
+--   startRows f N j t       column 0 of the rows of f, and 0 elsewhere
+--   Lifting p D N f d t s   f is a polynomial of order d, and s holds its pair to t terms
+-- Assumes nothing.
+use Prim.Native.Nat.{ℕ, zero, suc, _+_, _*_, _≤_, _<_}
+use mathlib.Core.Path.{_≡_}
+use mathlib.Core.List.{List}
+use lib.ListN.{length}
+use Rattle.algebra.specs.Fp.{Prime}
+use Rattle.numbers.specs.Words.{word, AllBelow}
+use Rattle.pair.specs.Pair.{order, PairWords}
+
+abbrev pub firstOnly : ℕ → ℕ → ℕ
+firstOnly x zero = x
+firstOnly x (suc t) = 0
+
+abbrev pub startRows : List ℕ → ℕ → ℕ → ℕ → ℕ
+startRows f N j = firstOnly (word f (j * N))
+
+pub record Lifting (p D N : ℕ) (f : List ℕ) (d t : ℕ) (s : List ℕ) : Type 0 where
+  pub prime : Prime p
+  pub small : p < 16777216
+  pub degree-high : D ≤ 32
+  pub terms-low : 1 ≤ N
+  pub terms-high : N ≤ 256
+  pub f-long : length f ≡ (D + 1) * N
+  pub f-below : AllBelow p f
+  pub ordered : d ≡ order D N f
+  pub bound : d ≤ D
+  pub roomy : (D + 1) * N ≤ length s
+  pub words : PairWords p D N f t s
