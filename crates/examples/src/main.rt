@@ -1,8 +1,16 @@
-// Examples of document 01 and neighbours of theirs that are not proved as theorems: each line of the output is one call and its
-// outcome, held to the stored output.
+// Examples of document 01 and neighbours of theirs that are not proved as theorems: each line of the output is one call and its outcome,
+// held to the stored output, which a second program computed.
 use libc::STDOUT_FILENO;
 use numbers::number::Number;
 use numbers::number::NumberAnswer;
+use numbers::refusal::Answer;
+use numbers::refusal::Refusal;
+ghost use mathlib.Core.Path.{_≡_};
+ghost use Prim.Native.Nat.{ℕ, _+_, _*_, _≤_};
+ghost use lib.ListN.{length};
+ghost use Rattle.numbers.specs.Words.{part, over};
+ghost use Rattle.numbers.specs.Refusals.{judge, outcome, result, written};
+ghost use Rattle.rows.specs.Rows.{multiplyChecks, rowProduct};
 
 fn say(text: &[u8]) {
     io::write_all(STDOUT_FILENO, text);
@@ -12,20 +20,22 @@ fn say_number(n: u32) {
     io::print_decimal(STDOUT_FILENO, n as u64);
 }
 
+fn say_refusal(r: Refusal) {
+    say(b"refused ");
+    say_number(r.number);
+    say(b" ");
+    say_number(r.detail);
+}
+
 // The value, or `refused`, number, detail.
-fn say_answer(a: NumberAnswer) {
+fn say_number_answer(a: NumberAnswer) {
     match a {
         NumberAnswer::Is(n) => {
             say_number(n.value);
             say(b" mod ");
             say_number(n.p);
         }
-        NumberAnswer::Refused(r) => {
-            say(b"refused ");
-            say_number(r.number);
-            say(b" ");
-            say_number(r.detail);
-        }
+        NumberAnswer::Refused(r) => say_refusal(r),
     }
     say(b"\n");
 }
@@ -34,13 +44,128 @@ fn say_answer(a: NumberAnswer) {
 fn all_four(p: u32, value: u32, other: u32) {
     let a = Number { p, value };
     say(b"sum ");
-    say_answer(a.sum(other));
+    say_number_answer(a.sum(other));
     say(b"difference ");
-    say_answer(a.difference(other));
+    say_number_answer(a.difference(other));
     say(b"product ");
-    say_answer(a.product(other));
+    say_number_answer(a.product(other));
     say(b"inverse ");
-    say_answer(a.inverse());
+    say_number_answer(a.inverse());
+}
+
+fn say_list(words: &[u32]) {
+    let mut i = 0;
+    while i < words.len() {
+        say(b" ");
+        say_number(words[i]);
+        i += 1;
+    }
+}
+
+// What a call answered, and every word that it was lent.
+fn say_words(a: Answer, out: &[u32]) {
+    match a {
+        Answer::Done(n) => {
+            say(b"done ");
+            say_number(n);
+        }
+        Answer::Refused(r) => say_refusal(r),
+    }
+    say(b":");
+    say_list(out);
+    say(b"\n");
+}
+
+// Two series of n words that stand somewhere in a larger slice, multiplied where they stand.
+fn product_of_parts(p: u32, n: u32, words: &[u32], a: usize, b: usize, out: &mut [u32]) -> Answer
+    requires { ⌜ (n ≤ 256) × (a + n ≤ length (now words)) × (b + n ≤ length (now words)) ⌝ }
+    ensures answer { λ r. ⌜ outcome r ≡ result (judge (multiplyChecks p 0 0 n (part (now (words .entry)) a n) (part (now (words .entry)) b n) (length (now (out .entry))))) ((0 + 0 + 1) * n) ⌝ }
+    ensures words { λ _. ⌜ now (out .exit) ≡ written (judge (multiplyChecks p 0 0 n (part (now (words .entry)) a n) (part (now (words .entry)) b n) (length (now (out .entry)))))
+        (over (rowProduct p 0 0 n (part (now (words .entry)) a n) (part (now (words .entry)) b n)) (now (out .entry))) (now (out .entry)) ⌝ }
+{
+    let x = a + n as usize;
+    let y = b + n as usize;
+    rows::multiply(p, 0, 0, n, &words[a..x], &words[b..y], out)
+}
+
+fn series_examples() {
+    let g = [1u32, 2, 3];
+    let h = [4u32, 5, 6];
+    let mut out = [9u32; 4];
+    say_words(series::sum(7, 3, &g, &h, &mut out), &out);
+    say_words(series::difference(7, 3, &g, &h, &mut out), &out);
+    say_words(series::multiply(7, 3, &g, &h, &mut out), &out);
+    say_words(series::divide(7, 3, &g, &h, &mut out), &out);
+    say_words(series::invert(7, 3, &h, &mut out), &out);
+}
+
+// Two refusals at once: the one with the lower number is given, and no word changes.
+fn series_refusals() {
+    let g = [1u32, 2, 3];
+    let zero = [0u32, 5, 6];
+    let large = [4u32, 9, 7];
+    let mut out = [9u32; 4];
+    let mut short = [9u32; 2];
+    say_words(series::divide(7, 3, &g, &zero, &mut out), &out);
+    say_words(series::divide(7, 3, &g, &zero, &mut short), &short);
+    say_words(series::invert(7, 3, &zero, &mut short), &short);
+    say_words(series::multiply(7, 3, &g, &large, &mut out), &out);
+    say_words(series::multiply(7, 3, &large, &g, &mut out), &out);
+    say_words(series::multiply(7, 4, &g, &large, &mut out), &out);
+    say_words(series::multiply(7, 257, &g, &large, &mut out), &out);
+    say_words(series::multiply(6, 0, &g, &large, &mut out), &out);
+}
+
+fn row_examples() {
+    // (Y + 1 + X) and (Y² + 3X Y + 2) over 5, two terms
+    let f = [1u32, 1, 1, 0];
+    let g = [2u32, 0, 0, 3, 1, 0];
+    let mut out = [9u32; 9];
+    say_words(rows::multiply(5, 1, 2, 2, &f, &g, &mut out), &out);
+    say_words(rows::shift(5, 2, 2, &g, 3, &mut out), &out);
+    say_words(rows::shift(5, 2, 2, &g, 5, &mut out), &out);
+    say_words(rows::sum(5, 1, 2, &f, &f, &mut out), &out);
+    say_words(rows::multiply(5, 4294967295, 1, 2, &f, &f, &mut out), &out);
+    say_words(rows::multiply(5, 17, 16, 2, &f, &f, &mut out), &out);
+    say_words(product_of_parts(5, 2, &g, 1, 3, &mut out), &out);
+}
+
+fn pair_examples() {
+    let mut out = [9u32; 13];
+    // X + Y + Y² over 5, to 4 terms; to 2 terms and then on to 4
+    let f = [0u32, 1, 0, 0, 1, 0, 0, 0, 1, 0, 0, 0];
+    say_words(pair::pair(5, 2, 4, &f, 4, &mut out), &out);
+    say_words(pair::pair(5, 2, 4, &f, 2, &mut out), &out);
+    say_words(pair::pair_continue(5, 2, 4, &f, 2, 4, &mut out), &out);
+    // behind, beyond, spoiled
+    say_words(pair::pair_continue(5, 2, 4, &f, 4, 3, &mut out), &out);
+    say_words(pair::pair_continue(5, 2, 4, &f, 4, 5, &mut out), &out);
+    say_words(pair::pair_continue(5, 2, 4, &f, 3, 4, &mut out), &out);
+    say_words(pair::pair_continue(5, 2, 4, &f, 0, 4, &mut out), &out);
+    // flat before beyond, short before flat
+    let flat = [0u32, 1, 0, 0, 0, 3, 0, 0, 0, 0, 0, 2];
+    say_words(pair::pair(5, 2, 4, &flat, 0, &mut out), &out);
+    let mut short = [9u32; 11];
+    say_words(pair::pair(5, 2, 4, &flat, 0, &mut short), &short);
+    // order D; D = 0; A whose top row is 0 at X = 0
+    let top = [0u32, 2, 1, 0, 0, 3, 4, 1, 3, 1, 0, 2];
+    say_words(pair::pair(5, 2, 4, &top, 4, &mut out), &out);
+    let alone = [3u32, 1, 4, 1];
+    say_words(pair::pair(5, 0, 4, &alone, 4, &mut out), &out);
+    let falling = [0u32, 1, 2, 0, 1, 0, 3, 1, 0, 1, 0, 4];
+    say_words(pair::pair(5, 2, 4, &falling, 4, &mut out), &out);
+}
+
+// X + (1 + X³) Y + (1 + X) Y² over 2, to 256 terms: p far below the number of terms.
+fn long_pair() {
+    let mut f = [0u32; 768];
+    let mut out = [9u32; 769];
+    f[1] = 1;
+    f[256] = 1;
+    f[259] = 1;
+    f[512] = 1;
+    f[513] = 1;
+    say_words(pair::pair(2, 2, 256, &f, 256, &mut out), &out);
 }
 
 fn main() {
@@ -57,4 +182,9 @@ fn main() {
     all_four(65536, 70000, 0);
     all_four(4294967295, 4294967295, 4294967295);
     all_four(2, 1, 1);
+    series_examples();
+    series_refusals();
+    row_examples();
+    pair_examples();
+    long_pair();
 }

@@ -2,6 +2,7 @@
 --   leave-refused, leave-done   an answer and what it leaves, after a verdict
 --   pair-pass, continue-pass    what the checks say of the input where they pass
 --   lifting-of                  what the lift wants, from the checks
+--   done-unique, continued-keeps   continuing and starting agree; only columns h..w − 1 change
 --   start-done                  column 0 of f over the first words is the pair to one term
 -- Assumes nothing.
 use Prim.Native.Nat.{ℕ, zero, suc, _+_, _*_, _≤_, _<_}
@@ -11,8 +12,10 @@ use mathlib.Core.Bool.{false, not, _||_}
 use mathlib.Core.List.{List, [], _∷_, _++_}
 use borrow.Author.Tests.{ltb-false, not-false}
 use lib.Dec.{ltb}
-use lib.ListN.{length, drop, List·getD-append}
+use mathlib.Core.Logic.{_⊎_, ⊎-elim}
+use lib.ListN.{length, take, drop, List·getD-append}
 use lib.Seq.{drop-at}
+use Rattle.algebra.specs.Fp.{Prime}
 use Rattle.numbers.specs.Words.{word, over, outside}
 use Rattle.numbers.specs.Refusals.{Check, check, Outcome, accepted, refused, result, judge}
 use Rattle.numbers.specs.declared.refusal.Refusal.{Refusal}
@@ -26,7 +29,7 @@ use Rattle.pair.specs.Pair.{order, firstChecks, pairChecks, continueChec
 use Rattle.pair.specs.Lifting.{startRows, Lifting}
 use Rattle.pair.proofs.TestLaws.{First, first-pass}
 use Rattle.pair.proofs.LiftLaws.{start-words}
-use Rattle.pair.proofs.PairWordsLaws.{test-pair}
+use Rattle.pair.proofs.PairWordsLaws.{test-pair, words-unique, words-agree}
 
 pub leave-refused : {v : Verdict} (r : Refusal) (x : ℕ) (Done : Type 0) (s : List ℕ) → v ≡ Refuse r
     → (_≡_ {A = Outcome ℕ} (refused (r .number) (r .detail)) (result v x)) × Leaves v Done s s
@@ -108,3 +111,18 @@ continue-pass p D N f h w s e =
       upto = ltb-false w h (c .0);
       words = test-pair p D N f (first .operation .inputs .modulus .prime) (first .bound) h (hs .0) s (not-false _ test);
     }
+
+-- Continuing to w gives word for word what starting to w gives: the pair's words are one.
+pub done-unique : (p D N : ℕ) (f : List ℕ) (w : ℕ) (old new old′ new′ : List ℕ) → Prime p → zero < N → (D + 1) * N ≤ length old → (D + 1) * N ≤ length old′
+    → PairDone p D N f w old new → PairDone p D N f w old′ new′ → take ((D + 1) * N) new ≡ take ((D + 1) * N) new′
+done-unique p D N f w old new old′ new′ prime width l l′ h h′ =
+    let e = h .long in
+    let e′ = h′ .long in
+    words-unique p D N f prime w new new′ width (h .words) (h′ .words) (omega arith) (omega arith)
+
+-- Where h terms were there, only the columns h..w − 1 change.
+pub continued-keeps : (p D N : ℕ) (f : List ℕ) (h w : ℕ) (old new : List ℕ) → Prime p → h ≤ w → PairWords p D N f h old → PairDone p D N f w old new
+    → (j : ℕ) → j < D + 1 → (t : ℕ) → t < N → (t < h) ⊎ (w ≤ t) → word new (j * N + t) ≡ word old (j * N + t)
+continued-keeps p D N f h w old new prime l before done j g t u =
+    ⊎-elim (λ v. words-agree p D N f prime w h new old (done .words) before j g t (omega arith) v)
+    (λ v. done .words .rest j g t v u ∙ sym (before .rest j g t (omega arith) u))
