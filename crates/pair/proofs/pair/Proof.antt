@@ -46,8 +46,11 @@ start-requires c κs =
 lift-requires : tie.Need-lift-requires
 lift-requires c κs =
     let i = pair-pass (c .before .before .before .before .before .before .before .before .before .before .before .args .p) (c .before .before .before .before .before .before .before .before .before .before .before .args .d) (c .before .before .before .before .before .before .before .before .before .before .before .args .n) (c .before .before .before .before .before .before .before .before .before .before .before .args .f .now) (c .before .before .before .before .before .before .before .before .before .before .before .args .w) (length (c .before .before .before .before .before .before .before .before .before .before .before .args .out .now)) (sym (c .before .before .before .before .before .before .before .before .check-pair .ensures) ∙ c .before .before .before .before .before .before .enum-told .given .1) in
+    let low = i .low in
+    let high = i .high in
+    let one = i .first .operation .inputs .terms-low in
     let s = start-done (c .before .before .before .before .before .before .before .before .before .before .before .args .p) (c .before .before .before .before .before .before .before .before .before .before .before .args .d) (c .before .before .before .before .before .before .before .before .before .before .before .args .n) (c .before .before .before .before .before .before .before .before .before .before .before .args .f .now) (c .before .before .before .before .before .before .before .before .before .before .before .args .out .now) _ (i .first) (c .before .before .before .start .ensures) in
-    (lifting-of (c .before .before .before .before .before .before .before .before .before .before .before .args .p) (c .before .before .before .before .before .before .before .before .before .before .before .args .d) (c .before .before .before .before .before .before .before .before .before .before .before .args .n) (c .before .before .before .before .before .before .before .before .before .before .before .args .f .now) (length (c .before .before .before .before .before .before .before .before .before .before .before .args .out .now)) _ 1 _ (i .first) (c .before .before .before .before .before .order-of .ensures) (let z = s .long in omega arith) (s .words), omega arith, i .low, i .high)
+    (lifting-of (c .before .before .before .before .before .before .before .before .before .before .before .args .p) (c .before .before .before .before .before .before .before .before .before .before .before .args .d) (c .before .before .before .before .before .before .before .before .before .before .before .args .n) (c .before .before .before .before .before .before .before .before .before .before .before .args .f .now) (length (c .before .before .before .before .before .before .before .before .before .before .before .args .out .now)) _ 1 _ (i .first) (c .before .before .before .before .before .order-of .ensures) (let z = s .long in omega arith) (s .words), omega arith, omega arith, omega arith)
 
 cast-t18 : tie.Need-cast-t18
 cast-t18 c =
