@@ -4,7 +4,7 @@ use mathlib.Core.Path.{_≡_, refl, sym, ap, subst, _∙_}
 use mathlib.Core.Bool.{Bool, true, false}
 use mathlib.Core.Logic.{⊎-elim, _⊎_, inl, inr}
 use mathlib.Core.List.{List, [], _∷_, _++_, append-assoc, append-nil}
-use Prim.Native.Nat.{ℕ, zero, suc, _+_, _≤_, _<_}
+use Prim.Native.Nat.{ℕ, zero, suc, _+_, _-_, _≤_, _<_}
 use native.Mathlib.Nat.{le-of-suc-le-suc, eq-or-lt-of-le, le-refl}
 use native.Mathlib.Decide.{decLt}
 use native.Mathlib.Numerals.{add-one}
@@ -12,7 +12,7 @@ use native.Mathlib.Omega.{arith}
 use borrow.Author.Tests.{le-leb, lt-leb, leb-false}
 use lib.Dec.{leb}
 use lib.ListN.{length, getD, take, drop, set, List·getD-append, length-set, length-append, length-drop}
-use lib.Seq.{set-at, drop-cons, take-at, drop-at, drop-drop, drop-length, getD-at, getD-append-add}
+use lib.Seq.{set-at, drop-cons, take-at, drop-at, drop-drop, drop-length, take-all, getD-at, getD-drop, getD-append-add}
 use Rattle.numbers.specs.Words.{word, choose, firstWhere, firstLarge, AllBelow, tabulate, over}
 
 pub lt-or-ge : (a b : ℕ) → (a < b) ⊎ (b ≤ a)
@@ -191,3 +191,19 @@ writing-take xs s e n w q = ap (take n) (w .is) ∙ take-at xs (drop (length xs)
 -- a list as long as what is written over it
 pub over-whole : (xs s : List ℕ) → length xs ≡ length s → over xs s ≡ xs
 over-whole xs s q = ap (λ (l : List ℕ). xs ++ l) (ap (λ (k : ℕ). drop k s) q ∙ drop-length s) ∙ append-nil xs
+
+-- the words from a on, as `&s[a..]` lends them
+abbrev pub from : List ℕ → ℕ → List ℕ
+from s a = take (length s - a) (drop a s)
+
+pub from-is : (s : List ℕ) (a : ℕ) → from s a ≡ drop a s
+from-is s a = take-all (length s - a) (drop a s) (simp length-drop (omega arith))
+
+pub length-from : (s : List ℕ) (a : ℕ) → length (from s a) ≡ length s - a
+length-from s a = ap length (from-is s a) ∙ length-drop a s
+
+pub word-from : (s : List ℕ) (a k : ℕ) → word (from s a) k ≡ word s (a + k)
+word-from s a k = ap (λ (l : List ℕ). word l k) (from-is s a) ∙ getD-drop a s k 0
+
+pub from-below : (p : ℕ) (s : List ℕ) (a : ℕ) → AllBelow p s → AllBelow p (from s a)
+from-below p s a b k h = rw (word-from s a k) (b (a + k) (omega (arith, length-from s a)))

@@ -10,7 +10,7 @@ use native.Mathlib.Omega.{arith}
 use lib.ListN.{length, take, drop, set, length-append, length-drop, length-set, drop-of-length-le, List·getD-append, List·getD-eq-default}
 use lib.Seq.{ext-getD, getD-append-add, getD-drop, getD-take, getD-set-same, getD-set-other, set-getD, length-take-le, take-length, take-all, take-suc, take-suc-set, drop-set-lt, drop-cons, take-at, drop-at, take-append-add, drop-append-add, append-snoc}
 use Rattle.numbers.specs.Words.{word, tabulate, over, AllBelow}
-use Rattle.numbers.proofs.WordsLaws.{lt-or-ge, length-tabulate, word-tabulate, tabulate-below, length-over, over-whole, Writing, writing-next}
+use Rattle.numbers.proofs.WordsLaws.{lt-or-ge, length-tabulate, word-tabulate, tabulate-below, length-over, over-whole, Writing, writing-next, from, from-is, length-from, from-below}
 use Rattle.pair.specs.Column.{hornerWord, hornerWords, lessMultiple, digits, lineTimes, undigits, ColumnStored}
 
 -- a number below 2^24 times a word
@@ -155,15 +155,8 @@ stored-next N t e old new j g h room w =
 pub stored-all : (N t : ℕ) (e old new : List ℕ) (j : ℕ) → ColumnStored N t (take j e) old new → j ≡ length e → ColumnStored N t e old new
 stored-all N t e old new j w q = subst (λ (l : List ℕ). ColumnStored N t l old new) (ap (λ (k : ℕ). take k e) q ∙ take-length e) w
 
--- a part from word i on, and the list after a call that was lent it, as the rules for parts give them
-abbrev pub restFrom : ℕ → List ℕ → List ℕ
-restFrom i e = take (length e - i) (drop i e)
-
 abbrev pub putFrom : ℕ → List ℕ → List ℕ → List ℕ
 putFrom i e y = take i e ++ (y ++ drop (length e - i) (drop i e))
-
-pub rest-from : (i : ℕ) (e : List ℕ) → restFrom i e ≡ drop i e
-rest-from i e = take-all (length e - i) (drop i e) (simp length-drop (omega arith))
 
 pub put-from : (i : ℕ) (e y : List ℕ) → putFrom i e y ≡ take i e ++ y
 put-from i e y =
@@ -189,12 +182,6 @@ drop-below p n s h k l = rw (getD-drop n s k 0) (h (n + k) (omega (arith, length
 
 pub take-below : (p n : ℕ) (s : List ℕ) → n ≤ length s → AllBelow p s → AllBelow p (take n s)
 take-below p n s g h k l = let e = length-take-le n s g in rw (getD-take n s k 0 (omega arith)) (h k (omega arith))
-
-pub rest-below : (p i : ℕ) (e : List ℕ) → AllBelow p e → AllBelow p (restFrom i e)
-rest-below p i e h = rw (rest-from i e) (drop-below p i e h)
-
-pub rest-length : (i : ℕ) (e : List ℕ) → length (restFrom i e) ≡ length e - i
-rest-length i e = ap length (rest-from i e) ∙ length-drop i e
 
 pub over-below : (p : ℕ) (xs s : List ℕ) → AllBelow p xs → AllBelow p s → AllBelow p (over xs s)
 over-below p xs s h g = append-below p xs (drop (length xs) s) h (drop-below p (length xs) s g)
@@ -240,13 +227,13 @@ module _ (p : ℕ) (pos : 1 ≤ p) where
   undigits-below c (q ∷ qs) = line-below c (q ∷ undigits p c qs)
 
 -- what a call of `less_multiple` is lent once the digit q is stored
-pub digit-rest : (h : List ℕ) (q : ℕ) → restFrom 1 (set h 0 q) ≡ drop 1 h
-digit-rest h q = rest-from 1 (set h 0 q) ∙ drop-set-lt 1 h 0 q (omega arith)
+pub digit-rest : (h : List ℕ) (q : ℕ) → from (set h 0 q) 1 ≡ drop 1 h
+digit-rest h q = from-is (set h 0 q) 1 ∙ drop-set-lt 1 h 0 q (omega arith)
 
-pub digit-rest-length : (p c : ℕ) (e h : List ℕ) (q : ℕ) → h ≡ hornerWords p c e → length (restFrom 1 (set h 0 q)) ≡ length e - 1
+pub digit-rest-length : (p c : ℕ) (e h : List ℕ) (q : ℕ) → h ≡ hornerWords p c e → length (from (set h 0 q) 1) ≡ length e - 1
 digit-rest-length p c e h q x = ap length (digit-rest h q) ∙ length-drop 1 h ∙ ap (λ (l : List ℕ). length l - 1) x ∙ ap (λ (n : ℕ). n - 1) (length-horner p c e)
 
-pub digit-rest-below : (p c : ℕ) (e h : List ℕ) (q : ℕ) → 1 ≤ p → h ≡ hornerWords p c e → AllBelow p (restFrom 1 (set h 0 q))
+pub digit-rest-below : (p c : ℕ) (e h : List ℕ) (q : ℕ) → 1 ≤ p → h ≡ hornerWords p c e → AllBelow p (from (set h 0 q) 1)
 digit-rest-below p c e h q pos x = rw (digit-rest h q, x) (drop-below p 1 (hornerWords p c e) (horner-below p pos c e))
 
 module _ (p c w : ℕ) (a : List ℕ) where
@@ -290,7 +277,7 @@ module _ (p c w : ℕ) (a : List ℕ) where
 
   -- what that call leaves
   pub digit-is : (e h y : List ℕ) → h ≡ hornerWords p c e → 1 ≤ length e
-      → y ≡ lessMultiple p (word h 0 * w % p) a (restFrom 1 (set h 0 (word h 0 * w % p)))
+      → y ≡ lessMultiple p (word h 0 * w % p) a (from (set h 0 (word h 0 * w % p)) 1)
       → putFrom 1 (set h 0 (word h 0 * w % p)) y ≡ digits p c w a 1 e
   digit-is e h y q pos z =
       let d = word h 0 * w % p in
@@ -302,13 +289,13 @@ module _ (p c w : ℕ) (a : List ℕ) where
 
   -- the digits one by one
   pub digits-turn : (m : ℕ) (s e y : List ℕ) (i : ℕ) → i < m → i ≤ length e → digits p c w a m s ≡ take i e ++ digits p c w a (m - i) (drop i e)
-      → y ≡ digits p c w a 1 (restFrom i e)
+      → y ≡ digits p c w a 1 (from e i)
       → digits p c w a m s ≡ take (i + 1) (putFrom i e y) ++ digits p c w a (m - (i + 1)) (drop (i + 1) (putFrom i e y))
   digits-turn m s e y i l h inv z =
       let x = drop i e in
       let n : length (take i e) + 1 ≡ i + 1 = ap (λ (k : ℕ). k + 1) (length-take-le i e h) in
       let k : m - i ≡ suc (m - (i + 1)) = omega arith in
-      let u : y ≡ digitOf x ∷ leftOf x = z ∙ ap (digits p c w a 1) (rest-from i e) ∙ digits-one x in
+      let u : y ≡ digitOf x ∷ leftOf x = z ∙ ap (digits p c w a 1) (from-is e i) ∙ digits-one x in
       let v : putFrom i e y ≡ take i e ++ (digitOf x ∷ leftOf x) = put-from i e y ∙ ap (λ (l : List ℕ). take i e ++ l) u in
       let t : take (i + 1) (putFrom i e y) ≡ take i e ++ (digitOf x ∷ []) =
       ap (take (i + 1)) v ∙ ap (λ (j : ℕ). take j (take i e ++ (digitOf x ∷ leftOf x))) (sym n) ∙ take-append-add (take i e) (digitOf x ∷ leftOf x) 1 in
@@ -318,16 +305,16 @@ module _ (p c w : ℕ) (a : List ℕ) where
       ∙ sym (append-snoc (take i e) (digitOf x) (digits p c w a (m - (i + 1)) (leftOf x)))
       ∙ rw (t, d) refl
 
-  pub digits-turn-length : (e y : List ℕ) (i : ℕ) → i + length a < length e → y ≡ digits p c w a 1 (restFrom i e) → length (putFrom i e y) ≡ length e
+  pub digits-turn-length : (e y : List ℕ) (i : ℕ) → i + length a < length e → y ≡ digits p c w a 1 (from e i) → length (putFrom i e y) ≡ length e
   digits-turn-length e y i h z =
       let n : length y ≡ length e - i =
-      ap length z ∙ length-digits 1 (restFrom i e) (omega (arith, rest-length i e)) ∙ rest-length i e in
+      ap length z ∙ length-digits 1 (from e i) (omega (arith, length-from e i)) ∙ length-from e i in
       ap length (put-from i e y) ∙ length-append (take i e) y ∙ omega (arith, length-take-le i e (omega arith))
 
-  pub digits-turn-below : 1 ≤ p → (e y : List ℕ) (i : ℕ) → i ≤ length e → AllBelow p e → y ≡ digits p c w a 1 (restFrom i e) → AllBelow p (putFrom i e y)
+  pub digits-turn-below : 1 ≤ p → (e y : List ℕ) (i : ℕ) → i ≤ length e → AllBelow p e → y ≡ digits p c w a 1 (from e i) → AllBelow p (putFrom i e y)
   digits-turn-below pos e y i h b z =
-      rw (put-from i e y, z) (append-below p (take i e) (digits p c w a 1 (restFrom i e)) (take-below p i e h b)
-      (digits-below pos 1 (restFrom i e) (rest-below p i e b)))
+      rw (put-from i e y, z) (append-below p (take i e) (digits p c w a 1 (from e i)) (take-below p i e h b)
+      (digits-below pos 1 (from e i) (from-below p e i b)))
 
 module _ (p c : ℕ) where
   -- the list of a loop that has expanded the digits from i on
@@ -355,22 +342,22 @@ module _ (p c : ℕ) where
       ap (λ (l : List ℕ). l ++ undigits p c (drop (suc j) s)) (take-suc s j 0 h) ∙ append-snoc (take j s) (word s j) (undigits p c (drop (suc j) s))
 
   -- one more
-  pub expanded-next : (j : ℕ) (s y : List ℕ) → j < length s → y ≡ lineTimes p c (restFrom j (expandedFrom (suc j) s))
+  pub expanded-next : (j : ℕ) (s y : List ℕ) → j < length s → y ≡ lineTimes p c (from (expandedFrom (suc j) s) j)
       → putFrom j (expandedFrom (suc j) s) y ≡ expandedFrom j s
   expanded-next j s y h z =
       let x = word s j ∷ undigits p c (drop (suc j) s) in
       let n = length-take-le j s (omega arith) in
       let t : take j (expandedFrom (suc j) s) ≡ take j s = ap (take j) (expanded-suc j s h) ∙ take-at (take j s) x j n in
-      let d : restFrom j (expandedFrom (suc j) s) ≡ x = rest-from j (expandedFrom (suc j) s) ∙ ap (drop j) (expanded-suc j s h) ∙ drop-at (take j s) x j n in
+      let d : from (expandedFrom (suc j) s) j ≡ x = from-is (expandedFrom (suc j) s) j ∙ ap (drop j) (expanded-suc j s h) ∙ drop-at (take j s) x j n in
       put-from j (expandedFrom (suc j) s) y ∙ ap (λ (l : List ℕ). l ++ y) t
       ∙ ap (λ (l : List ℕ). take j s ++ l) (z ∙ ap (lineTimes p c) d ∙ sym (undigits-cons (word s j) (drop (suc j) s)) ∙ ap (undigits p c) (sym (drop-cons s j 0 h)))
 
-  pub expanded-turn : (i : ℕ) (s e y : List ℕ) → 0 < i → i ≤ length s → e ≡ expandedFrom i s → y ≡ lineTimes p c (restFrom (i - 1) e)
+  pub expanded-turn : (i : ℕ) (s e y : List ℕ) → 0 < i → i ≤ length s → e ≡ expandedFrom i s → y ≡ lineTimes p c (from e (i - 1))
       → putFrom (i - 1) e y ≡ expandedFrom (i - 1) s
   expanded-turn i s e y pos h q z =
       let k : i ≡ suc (i - 1) = omega arith in
       let r : e ≡ expandedFrom (suc (i - 1)) s = q ∙ ap (λ (n : ℕ). expandedFrom n s) k in
-      ap (λ (l : List ℕ). putFrom (i - 1) l y) r ∙ expanded-next (i - 1) s y (omega arith) (z ∙ ap (λ (l : List ℕ). lineTimes p c (restFrom (i - 1) l)) r)
+      ap (λ (l : List ℕ). putFrom (i - 1) l y) r ∙ expanded-next (i - 1) s y (omega arith) (z ∙ ap (λ (l : List ℕ). lineTimes p c (from l (i - 1))) r)
 
   pub expanded-none : (s : List ℕ) → s ≡ expandedFrom (length s) s
   expanded-none s =

@@ -17,11 +17,11 @@ use Rattle.algebra.specs.Bridge.{same-rem, rem-zero}
 use Rattle.algebra.specs.Poly.{linPow}
 use Rattle.numbers.specs.Words.{word, tabulate, over, AllBelow}
 use Rattle.numbers.specs.Divisor.{inverseOf}
-use Rattle.numbers.proofs.WordsLaws.{lt-or-ge, length-tabulate, word-tabulate, length-over}
+use Rattle.numbers.proofs.WordsLaws.{lt-or-ge, length-tabulate, word-tabulate, length-over, from, length-from, word-from}
 use Rattle.series.proofs.QuotientLaws.{inverse-law}
 use Rattle.rows.specs.Rows.{rowsOf, table, mul, linePower}
 use Rattle.rows.specs.Passes.{passSum}
-use Rattle.rows.proofs.RowsLaws.{rows-below, rows-past, rows-bound, row-fits, length-table, word-table, line-lt, from, word-from, length-from}
+use Rattle.rows.proofs.RowsLaws.{rows-below, rows-past, rows-bound, row-fits, length-table, word-table, line-lt}
 use Rattle.rows.proofs.MulLaws.{mul-ext}
 use Rattle.pair.specs.Pair.{unit, monic, order, given, lowRows, highRows, IsPair, PairWords, PairDone}
 use Rattle.pair.specs.Column.{hornerWord, hornerWords, digits, undigits, middleSum, lowPart, highPart, Solves, ColumnStored, Prepared}

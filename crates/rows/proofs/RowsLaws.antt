@@ -12,7 +12,7 @@ use lib.ListN.{length, take, drop, set, length-append, length-drop, List·getD-a
 use lib.Seq.{getD-append-add, getD-drop, getD-take, getD-set-other, set-set, set-getD, take-all, take-at, take-add, ext-getD, length-take-le}
 use Rattle.algebra.specs.Sums.{sumTo, sumTo-ext, sumTo-bound, sumTo-zeros, sumTo-append}
 use Rattle.numbers.specs.Words.{word, tabulate, over, AllBelow}
-use Rattle.numbers.proofs.WordsLaws.{lt-or-ge, length-tabulate, word-tabulate, tabulate-ext, tabulate-below, Writing, writing-part, over-whole}
+use Rattle.numbers.proofs.WordsLaws.{lt-or-ge, length-tabulate, word-tabulate, tabulate-ext, tabulate-below, Writing, writing-part, over-whole, from, length-from, word-from}
 use Rattle.series.specs.Series.{dotSum}
 use Rattle.series.proofs.SeriesLaws.{word-below}
 use Rattle.rows.specs.Rows.{rowsOf, table, mul, linePower, shifted}
@@ -104,22 +104,6 @@ table-front s rows N e (suc j) h =
 
 pub table-rows : (s : List ℕ) (rows N : ℕ) → length s ≡ rows * N → table rows N (rowsOf s N rows) ≡ s
 table-rows s rows N e = table-front s rows N e rows (omega arith) ∙ take-all (rows * N) s (omega arith)
-
--- `&s[a..]`, as the rule for a part gives it
-abbrev pub from : List ℕ → ℕ → List ℕ
-from s a = take (length s - a) (drop a s)
-
-pub from-is : (s : List ℕ) (a : ℕ) → from s a ≡ drop a s
-from-is s a = take-all (length s - a) (drop a s) (simp length-drop (omega arith))
-
-pub length-from : (s : List ℕ) (a : ℕ) → length (from s a) ≡ length s - a
-length-from s a = ap length (from-is s a) ∙ length-drop a s
-
-pub word-from : (s : List ℕ) (a k : ℕ) → word (from s a) k ≡ word s (a + k)
-word-from s a k = ap (λ (l : List ℕ). word l k) (from-is s a) ∙ getD-drop a s k 0
-
-pub from-below : (p : ℕ) (s : List ℕ) (a : ℕ) → AllBelow p s → AllBelow p (from s a)
-from-below p s a b k h = rw (word-from s a k) (b (a + k) (omega (arith, length-from s a)))
 
 -- summand i of passSum, as the loop reads it
 abbrev pub passTerm : (a b : ℕ → ℕ → ℕ) (j skip count i : ℕ) → ℕ

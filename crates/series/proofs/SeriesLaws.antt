@@ -12,7 +12,7 @@ use lib.Seq.{getD-at, getD-drop, take-all}
 use Rattle.algebra.specs.Sums.{sumTo, sumTo-suc, sumTo-ext, sumTo-bound}
 use Rattle.numbers.specs.Words.{word, AllBelow}
 use Rattle.numbers.specs.Divisor.{inverseOf}
-use Rattle.numbers.proofs.WordsLaws.{lt-or-ge, tabulate-below, Writing, writing-store, writing-take}
+use Rattle.numbers.proofs.WordsLaws.{lt-or-ge, tabulate-below, Writing, writing-store, writing-take, from, from-is}
 use Rattle.series.specs.Series.{sums, differences, productColumn, product, quotientColumn, quotient, dotSum}
 
 -- what a sum gains with one summand more
@@ -46,24 +46,11 @@ unfolding dotSum productColumn
 dot-column p g h t =
     ap (λ (x : ℕ). x % p) (sumTo-ext (t + 1) (λ i l. ap (λ (j : ℕ). word g i * word h j) (let e : t + 1 - (i + 1) ≡ t - i = omega arith in e)))
 
--- `&g[1..]`, as the rule for a part gives it
-abbrev pub rest : List ℕ → List ℕ
-rest g = take (length g - 1) (drop 1 g)
-
-pub rest-is : (g : List ℕ) → rest g ≡ drop 1 g
-rest-is g = take-all (length g - 1) (drop 1 g) (simp length-drop (omega arith))
-
-pub rest-length : (g : List ℕ) → length (rest g) ≡ length g - 1
-rest-length g = ap length (rest-is g) ∙ length-drop 1 g
-
-pub rest-below : (p : ℕ) (g : List ℕ) → AllBelow p g → AllBelow p (rest g)
-rest-below p g b k h = rw (rest-is g, getD-drop) (b (1 + k) (omega (arith, rest-length g)))
-
--- a pass along the rest of g is the sum of the quotient's column
-pub dot-rest : (g h : List ℕ) (t : ℕ) → dotSum (rest g) h t ≡ sumTo t (λ i. word g (i + 1) * word h (t - (i + 1)))
+-- a pass along the from of 1 g is the sum of the quotient's column
+pub dot-rest : (g h : List ℕ) (t : ℕ) → dotSum (from g 1) h t ≡ sumTo t (λ i. word g (i + 1) * word h (t - (i + 1)))
 unfolding dotSum
 dot-rest g h t =
-    ap (λ (s : List ℕ). sumTo t (λ i. word s i * word h (t - (i + 1)))) (rest-is g)
+    ap (λ (s : List ℕ). sumTo t (λ i. word s i * word h (t - (i + 1)))) (from-is g 1)
     ∙ sumTo-ext t (λ i _. ap (λ (x : ℕ). x * word h (t - (i + 1))) (getD-drop 1 g i 0 ∙ ap (word g) (let e : 1 + i ≡ i + 1 = omega arith in e)))
 
 module _ (p : ℕ) (pos : 1 ≤ p) where
@@ -149,7 +136,7 @@ pub written-columns : (p t : ℕ) (f g s e : List ℕ) → Writing (quotient p t
 written-columns p t f g s e w = writing-take (quotient p t f g) s e t w (length-quotient p t f g)
 
 -- what a turn computes from them is the next
-pub turn-column : (p t : ℕ) (f g h : List ℕ) (d a i : ℕ) → h ≡ quotient p t f g → d ≡ dotSum (rest g) h t → a ≡ word f t → i ≡ inverseOf p (word g 0)
+pub turn-column : (p t : ℕ) (f g h : List ℕ) (d a i : ℕ) → h ≡ quotient p t f g → d ≡ dotSum (from g 1) h t → a ≡ word f t → i ≡ inverseOf p (word g 0)
     → (a + (p - d % p)) * i % p ≡ quotientColumn p f g (quotient p t f g) t
 unfolding quotientColumn
 turn-column p t f g h d a i e u v w = rw (u, v, w, e, dot-rest g (quotient p t f g) t)

@@ -6,9 +6,10 @@ use Prim.Native.Nat.{ℕ, _≤_, _-_}
 use native.Mathlib.Nat.{sub-zero}
 use native.Mathlib.Omega.{arith}
 use lib.ListN.{length, take, drop, take-append-drop}
+use Rattle.numbers.proofs.WordsLaws.{length-from, from-below}
 use Rattle.numbers.specs.Words.{AllBelow}
 use Rattle.pair.specs.Column.{digits}
-use Rattle.pair.proofs.ColumnLaws.{rest-length, rest-below, digits-zero, digits-turn, digits-turn-length, digits-turn-below}
+use Rattle.pair.proofs.ColumnLaws.{digits-zero, digits-turn, digits-turn-length, digits-turn-below}
 use borrow.Author.Needs.{needs}
 use Rattle.pair.proofs.kernel.all_digits.Statement.{statement}
 use Rattle.pair.proofs.kernel.all_digits.Tie as tie
@@ -37,7 +38,7 @@ part-digit-end : tie.Need-part-digit-end Inv-loop μ-loop
 part-digit-end c = search needs
 
 digit-requires : tie.Need-digit-requires Inv-loop μ-loop
-digit-requires c κs = (omega arith, omega arith, omega arith, omega arith, omega (arith, rest-length (c .before .before .loop .i) (c .before .before .loop .e)), c .before .before .before .before .before .pre .5, rest-below (c .before .before .before .before .before .args .p) (c .before .before .loop .i) (c .before .before .loop .e) (c .before .before .loop .inv .2))
+digit-requires c κs = (omega arith, omega arith, omega arith, omega arith, omega (arith, length-from (c .before .before .loop .e) (c .before .before .loop .i)), c .before .before .before .before .before .pre .5, from-below (c .before .before .before .before .before .args .p) (c .before .before .loop .e) (c .before .before .loop .i) (c .before .before .loop .inv .2))
 
 add-i : tie.Need-add-i Inv-loop μ-loop
 add-i c = search needs

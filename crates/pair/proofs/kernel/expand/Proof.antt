@@ -4,7 +4,8 @@ use mathlib.Core.Path.{_≡_, refl, ap, _∙_}
 use Prim.Native.Nat.{ℕ, _≤_, _-_}
 use native.Mathlib.Omega.{arith}
 use lib.ListN.{length}
-use Rattle.pair.proofs.ColumnLaws.{rest-length, rest-below, expandedFrom, expanded-none, expanded-below, expanded-length, expanded-turn}
+use Rattle.numbers.proofs.WordsLaws.{length-from, from-below}
+use Rattle.pair.proofs.ColumnLaws.{expandedFrom, expanded-none, expanded-below, expanded-length, expanded-turn}
 use borrow.Author.Needs.{needs}
 use Rattle.pair.proofs.kernel.expand.Statement.{statement}
 use Rattle.pair.proofs.kernel.expand.Tie as tie
@@ -40,8 +41,8 @@ line-times-requires c κs =
       omega arith,
       omega arith,
       omega arith,
-      omega (arith, rest-length (l .i - 1) (l .e)),
-      rest-below (a .p) (l .i - 1) (l .e) (rw (l .inv .2) (expanded-below (a .p) (a .c) (omega arith) (l .i) (a .e .now) (l .inv .0) (c .before .before .before .before .pre .3))),
+      omega (arith, length-from (l .e) (l .i - 1)),
+      from-below (a .p) (l .e) (l .i - 1) (rw (l .inv .2) (expanded-below (a .p) (a .c) (omega arith) (l .i) (a .e .now) (l .inv .0) (c .before .before .before .before .pre .3))),
     )
 
 loop-less : tie.Need-loop-less Inv-loop μ-loop

@@ -3,10 +3,11 @@
 use mathlib.Core.Path.{_≡_, sym, ap, _∙_}
 use Prim.Native.Nat.{ℕ, _≤_, _-_, _+_, _*_}
 use native.Mathlib.Omega.{arith}
+use Rattle.numbers.proofs.WordsLaws.{length-from, from-below}
 use Rattle.algebra.specs.Sums.{sumTo}
 use Rattle.series.proofs.SeriesLaws.{sum-next}
 use Rattle.rows.specs.Rows.{rowsOf}
-use Rattle.rows.proofs.RowsLaws.{passTerm, row-fits, rows-small, length-from, from-below, pass-none, pass-all, row-dot, passes-bound}
+use Rattle.rows.proofs.RowsLaws.{passTerm, row-fits, rows-small, pass-none, pass-all, row-dot, passes-bound}
 use borrow.Author.Needs.{needs}
 use Rattle.rows.proofs.kernel.passes.Statement.{statement}
 use Rattle.rows.proofs.kernel.passes.Tie as tie

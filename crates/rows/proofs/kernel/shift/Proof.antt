@@ -5,9 +5,9 @@ use Prim.Native.Nat.{_≤_, _-_, _+_, _*_}
 use native.Mathlib.Omega.{arith}
 use lib.ListN.{length}
 use lib.Seq.{length-take-le}
-use Rattle.numbers.proofs.WordsLaws.{Writing, writing-none}
+use Rattle.numbers.proofs.WordsLaws.{Writing, writing-none, from-below}
 use Rattle.rows.specs.Rows.{rowsOf, table, shifted}
-use Rattle.rows.proofs.RowsLaws.{Weights, zeros, row-fits, from-below, length-part, writing-row, writing-rows, weights-first, weights-next, weights-below, length-rest, rest-below, rest-fits, shift-row-is}
+use Rattle.rows.proofs.RowsLaws.{Weights, zeros, row-fits, length-part, writing-row, writing-rows, weights-first, weights-next, weights-below, length-rest, rest-below, rest-fits, shift-row-is}
 use borrow.Author.Needs.{needs}
 use Rattle.rows.proofs.kernel.shift.Statement.{statement}
 use Rattle.rows.proofs.kernel.shift.Tie as tie

@@ -7,9 +7,9 @@ use native.Mathlib.Omega.{arith}
 use lib.ListN.{length, take}
 use lib.Seq.{length-take-le}
 use Rattle.numbers.specs.Words.{over}
-use Rattle.numbers.proofs.WordsLaws.{Writing, writing-none}
+use Rattle.numbers.proofs.WordsLaws.{Writing, writing-none, length-from, from-below}
 use Rattle.series.specs.Series.{quotient}
-use Rattle.series.proofs.SeriesLaws.{word-below, rest-length, rest-below, quotient-below, length-quotient, written-columns, turn-column, column-store}
+use Rattle.series.proofs.SeriesLaws.{word-below, quotient-below, length-quotient, written-columns, turn-column, column-store}
 use borrow.Author.Needs.{needs}
 use Rattle.series.proofs.kernel.divide.Statement.{statement}
 use Rattle.series.proofs.kernel.divide.Tie as tie
@@ -54,10 +54,10 @@ dot-requires c κs =
     let t = c .before .before .before .loop .t in
     let w = written-columns (a .p) t (a .f .now) (a .g .now) _ _ (c .before .before .before .loop .inv .1) in
     let l : length (take t (c .before .before .before .loop .out)) ≡ t = length-take-le _ _ (omega arith) in (
-      omega (arith, rest-length (a .g .now)),
+      omega (arith, length-from (a .g .now) 1),
       omega arith,
       omega arith,
-      λ k h. omega (arith, rest-below (a .p) (a .g .now) (c .before .before .before .before .before .before .before .before .before .pre .6) k h),
+      λ k h. omega (arith, from-below (a .p) (a .g .now) 1 (c .before .before .before .before .before .before .before .before .before .pre .6) k h),
       λ k h. rw w (omega (arith, quotient-below (a .p) (omega arith) t (a .f .now) (a .g .now) k (omega (arith, length-quotient (a .p) t (a .f .now) (a .g .now))))),
     )
 
