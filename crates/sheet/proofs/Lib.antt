@@ -1,0 +1,14 @@
+pub mod SoundTestLaws
+pub mod FactorsLaws
+pub mod ExistsLaws
+pub mod RegionsLaws
+pub mod ContentLaws
+pub mod SheetsLaws
+pub mod CofactorsLaws
+pub mod UniqueLaws
+pub mod BuildLaws
+pub mod OpenLaws
+pub mod OpeningLaws
+pub mod ExtendingLaws
+pub mod TotalLaws
+pub mod Demand3Laws

@@ -1,0 +1,124 @@
+-- For every input the contracts of open and of extend allow exactly one answer and one content of the slice.
+--   open-total, extend-total    so
+--   open-is                     open's contract as two equations
+--   extend-able                 what an accepted extend was lent
+--   extend-spoiled, extend-beyond, extend-behind, extend-reached   extend's verdict, case by case
+-- Assumes nothing.
+use Prim.Native.Nat.{ℕ, _≤_, _<_}
+use native.Mathlib.Omega.{arith}
+use mathlib.Core.Path.{_≡_, refl, sym, _∙_, ap, ap₂, subst}
+use mathlib.Core.Logic.{_↔_, _⊎_, inl, inr}
+use mathlib.Core.Bool.{Bool, true, false, not, _||_}
+use mathlib.Core.List.{List, [], _∷_}
+use borrow.Author.Tests.{ltb-false, lt-ltb, le-ltb, not-false}
+use lib.Dec.{ltb}
+use lib.ListN.{length}
+use Rattle.numbers.specs.Words.{outside, over}
+use Rattle.numbers.specs.Refusals.{check, judge, refusal, Outcome, result, written}
+use Rattle.numbers.specs.declared.refusal.Verdict.{Verdict}
+use Rattle.numbers.specs.declared.refusal.Verdict.the-variants.{Pass, Refuse}
+use Rattle.numbers.proofs.RefusalsLaws.{none-judged, pass-check, take-check, skip-check}
+use Rattle.pair.specs.Pair.{Leaves}
+use Rattle.sheet.specs.Layout.{terms, width}
+use Rattle.sheet.specs.Sheet.{Sound, soundTest, Given, needed, openVerdict, OpenDone, Opened, extendChecks, extendVerdict, ExtendDone, Extended}
+use Rattle.sheet.proofs.SoundTestLaws.{sound-test}
+use Rattle.sheet.proofs.OpeningLaws.{outside-false, open-ready, openWords, open-done, open-only}
+use Rattle.sheet.proofs.ExtendingLaws.{extended, extend-done, extend-only}
+
+-- exactly one answer and one content
+pub record One (P : Outcome ℕ → List ℕ → Type 0) : Type 0 where
+  pub answer : Outcome ℕ
+  pub left : List ℕ
+  pub there : P answer left
+  pub only : (a : Outcome ℕ) (new : List ℕ) → P a new → (a ≡ answer) × (new ≡ left)
+
+module _ (g : Given) (old : List ℕ) where
+  abbrev verdict : Verdict
+  verdict = openVerdict g (length old)
+
+  pub open-is : (a : Outcome ℕ) (new : List ℕ) → Opened g old a new ↔ ((a ≡ result verdict (needed g)) × (new ≡ written verdict (over (openWords g) old) old))
+  open-is a new = (λ x. (x .answers, go verdict refl .0 (x .leaves)), λ e. record { answers = e .0; leaves = go verdict refl .1 (e .1) })
+    where
+      go : (v : Verdict) → verdict ≡ v → Leaves v (OpenDone g old new (needed g)) old new ↔ (new ≡ written v (over (openWords g) old) old)
+      go Pass e =
+          let h = open-ready g (length old) e in
+          (open-only g old (h .0) (h .1) new, λ q. subst (λ n. OpenDone g old n (needed g)) (sym q) (open-done g old (h .0) (h .1)))
+      go (Refuse r) e = (λ q. q, λ q. q)
+
+  pub open-total : One (Opened g old)
+  open-total = record {
+    answer = result verdict (needed g);
+    left = written verdict (over (openWords g) old) old;
+    there = open-is _ _ .1 (refl, refl);
+    only = λ a new x. open-is a new .0 x;
+  }
+
+module _ (old : List ℕ) (w : ℕ) where
+  pub record Able : Type 0 where
+    pub sound : Sound old
+    pub low : terms old ≤ w
+    pub high : w ≤ width old
+
+  pub extend-able : extendVerdict old w ≡ Pass → Able
+  unfolding extendVerdict
+  extend-able e =
+      let a = pass-check (check 13 (not (soundTest old)) 0) _ e in
+      let b = pass-check (check 14 (outside 1 (width old) w) 0) _ (a .1) in
+      let c = pass-check (check 15 (ltb w (terms old)) 0) _ (b .1) in
+      record { sound = sound-test old .0 (not-false (soundTest old) (a .0)); low = ltb-false w (terms old) (c .0); high = outside-false 1 (width old) w (b .0) .1 }
+
+  pub extend-total : One (Extended old w)
+  extend-total = go (extendVerdict old w) refl
+    where
+      go : (v : Verdict) → extendVerdict old w ≡ v → One (Extended old w)
+      go Pass e =
+          let h = extend-able e in
+          let new′ : List ℕ = extended old (h .sound) w (h .low) (h .high) in
+          let d : ExtendDone old w new′ = extend-done old (h .sound) w (h .low) (h .high) in
+          record {
+            answer = result (extendVerdict old w) w;
+            left = new′;
+            there = record { answers = refl; leaves = subst (λ v. Leaves v (ExtendDone old w new′) old new′) (sym e) d };
+            only = λ a new x. (x .answers, extend-only old (h .sound) w new new′ (subst (λ v. Leaves v (ExtendDone old w new) old new) e (x .leaves)) d);
+          }
+      go (Refuse r) e = record {
+        answer = result (extendVerdict old w) w;
+        left = old;
+        there = record { answers = refl; leaves = subst (λ v. Leaves v (ExtendDone old w old) old old) (sym e) refl };
+        only = λ a new x. (x .answers, subst (λ v. Leaves v (ExtendDone old w new) old new) e (x .leaves));
+      }
+
+  -- extend's verdict, case by case
+  pub extend-spoiled : ¬ Sound old → extendVerdict old w ≡ Refuse (refusal 13 0)
+  unfolding extendVerdict
+  extend-spoiled h = go (soundTest old) refl
+    where
+      go : (b : Bool) → soundTest old ≡ b → judge (extendChecks old w) ≡ Refuse (refusal 13 0)
+      go true e = absurd (h (sound-test old .0 e))
+      go false e = take-check (check 13 (not (soundTest old)) 0) _ (ap not e)
+
+  module _ (h : Sound old) where
+    past-sound : extendVerdict old w ≡ judge (check 14 (outside 1 (width old) w) 0 ∷ check 15 (ltb w (terms old)) 0 ∷ [])
+    unfolding extendVerdict
+    past-sound = skip-check (check 13 (not (soundTest old)) 0) _ (ap not (sound-test old .1 h))
+
+    pub extend-beyond : (w ≡ 0) ⊎ (width old < w) → extendVerdict old w ≡ Refuse (refusal 14 0)
+    extend-beyond u = past-sound ∙ take-check (check 14 (outside 1 (width old) w) 0) _ (go u)
+      where
+        or-true : (b : Bool) → (b || true) ≡ true
+        or-true true = refl
+        or-true false = refl
+
+        go : (w ≡ 0) ⊎ (width old < w) → outside 1 (width old) w ≡ true
+        go (inl e) = rw (lt-ltb w 1 (omega arith))
+        go (inr l) = rw (lt-ltb (width old) w l) (or-true (ltb w 1))
+
+    module _ (low : 1 ≤ w) (high : w ≤ width old) where
+      past-range : extendVerdict old w ≡ judge (check 15 (ltb w (terms old)) 0 ∷ [])
+      past-range = past-sound ∙ skip-check (check 14 (outside 1 (width old) w) 0) _ (ap₂ _||_ (le-ltb w 1 low) (le-ltb (width old) w high))
+
+      pub extend-behind : w < terms old → extendVerdict old w ≡ Refuse (refusal 15 0)
+      extend-behind l = past-range ∙ take-check (check 15 (ltb w (terms old)) 0) [] (lt-ltb w (terms old) l)
+
+      pub extend-reached : terms old ≤ w → extendVerdict old w ≡ Pass
+      extend-reached l = past-range ∙ skip-check (check 15 (ltb w (terms old)) 0) [] (le-ltb w (terms old) l) ∙ none-judged

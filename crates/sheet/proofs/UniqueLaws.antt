@@ -1,0 +1,128 @@
+-- There is one sound sheet for what open was given and k.
+--   good-lists         over one p, where polynomials agree below X^(n + 1) the factor lists of good contents do ..
+--   good-polynomials   .. and the other way round
+--   good-unique        good content is determined by p, D, N, k and the polynomial
+--   sound-unique       so the words of a sound sheet are
+--   holds-unique       two sound sheets that hold what open was given, with k terms, have the same first T words
+-- Assumes nothing.
+use Prim.Native.Nat.{ℕ, suc, _+_, _-_, _≤_, _<_}
+use native.Mathlib.Nat.{lt-of-not-le}
+use native.Mathlib.Decide.{decLe}
+use native.Mathlib.Omega.{arith}
+use mathlib.Core.Path.{_≡_, sym, _∙_, ap, ap₂, subst}
+use mathlib.Core.List.{List}
+use lib.ListN.{take}
+use Rattle.algebra.specs.Sums.{sumTo, sumTo-ext}
+use Rattle.numbers.specs.Words.{word}
+use Rattle.sheet.specs.Factors.{IsFactors, SameFactors, SamePolynomial}
+use Rattle.sheet.specs.Layout.{modulus, degree, width, terms, codegree, end, polynomial}
+use Rattle.sheet.specs.Sheet.{Sound, Given, Holds}
+use Rattle.sheet.proofs.FactorsLaws.{factors-unique, factors-determine}
+use Rattle.sheet.proofs.RegionsLaws.{Block, locate}
+use Rattle.sheet.proofs.ContentLaws.{Content, contentOf, corows, SameContent, codegree-ext, corows-ext, words-same, same-size}
+use Rattle.sheet.proofs.SheetsLaws.{factorOf, cofactorOf, after, after-ext, Good, factor-row, sound-good, sound-words, sound-take}
+
+module _ (c c′ : Content) (h : Good c) (h′ : Good c′) (same-modulus : c .p ≡ c′ .p) where
+  factors′ : IsFactors (c .p) (c′ .D) (c′ .k) (c′ .r) (c′ .f) (c′ .root) (c′ .power) (factorOf c′)
+  factors′ = rw same-modulus (h′ .factors)
+
+  module _ (n : ℕ) (l : suc n ≤ c .k) (l′ : suc n ≤ c′ .k) where
+    pub good-lists : SamePolynomial (suc n) (c .D) (c′ .D) (c .f) (c′ .f) → SameFactors (suc n) (c .r) (c′ .r) (c .root) (c′ .root) (c .power) (c′ .power) (factorOf c) (factorOf c′)
+    good-lists =
+        factors-unique (h .prime) n (c .k) (c′ .k) (c .D) (c′ .D) (c .r) (c′ .r) (c .f) (c′ .f) (c .root) (c′ .root) (c .power) (c′ .power) (factorOf c) (factorOf c′) (h .factors) factors′ l l′
+        (λ i g q u t v. h .factors-reduced _ (factor-row c h i q g u) t (omega arith))
+        (λ i g q u t v. let z = h′ .factors-reduced _ (factor-row c′ h′ i q g u) t (omega arith) in omega arith)
+
+    pub good-polynomials : SameFactors (suc n) (c .r) (c′ .r) (c .root) (c′ .root) (c .power) (c′ .power) (factorOf c) (factorOf c′) → SamePolynomial (suc n) (c .D) (c′ .D) (c .f) (c′ .f)
+    good-polynomials =
+        factors-determine (h .prime) n (c .k) (c′ .k) (c .D) (c′ .D) (c .r) (c′ .r) (c .f) (c′ .f) (c .root) (c′ .root) (c .power) (c′ .power) (factorOf c) (factorOf c′) (h .factors) factors′ l l′
+
+  module _ (eD : c .D ≡ c′ .D) (eN : c .N ≡ c′ .N) (ek : c .k ≡ c′ .k) (ef : (j t : ℕ) → j ≤ c .D → t < c .N → c .f j t ≡ c′ .f j t) where
+    suc-n : suc (c .k - 1) ≡ c .k
+    suc-n = let z = h .terms-low in omega arith
+
+    lists : SameFactors (suc (c .k - 1)) (c .r) (c′ .r) (c .root) (c′ .root) (c .power) (c′ .power) (factorOf c) (factorOf c′)
+    lists =
+        let z = suc-n in
+        let y = h .terms-high in
+        good-lists (c .k - 1) (omega arith) (omega arith) (record { degrees = eD; columns = λ j g t v. ef j t g (omega arith) })
+
+    e-factor : (i : ℕ) → i < c .r → (j : ℕ) → j < c .power i → (t : ℕ) → t < c .k → factorOf c i j t ≡ factorOf c′ i j t
+    e-factor i l j g t v = lists .columns i l j g t (let z = suc-n in omega arith)
+
+    e-codegree : (i : ℕ) → i < c .r → codegree (c .D) (c .power) i ≡ codegree (c′ .D) (c′ .power) i
+    e-codegree i l = codegree-ext (c .D) (c′ .D) (c .power) (c′ .power) i eD (λ j g. lists .powers j (omega arith))
+
+    e-corows : corows c ≡ corows c′
+    e-corows = corows-ext (c .D) (c′ .D) (c .r - 2) (c .power) (c′ .power) eD (λ i l. lists .powers i (omega arith)) ∙ ap (λ r. sumTo (r - 2) (codegree (c′ .D) (c′ .power))) (lists .counts)
+
+    e-factors : (j t : ℕ) → j < c .D → t < c .N → c .factors j t ≡ c′ .factors j t
+    e-factors j t l v = go (decLe (suc t) (c .k))
+      where
+        b : Block (c .r) (c .power) j
+        b = locate (c .r) (c .power) j (let z = h .factors .degree in omega arith)
+
+        go : Dec (suc t ≤ c .k) → c .factors j t ≡ c′ .factors j t
+        go (yes y) =
+            ap (λ x. c .factors x t) (b .at) ∙ e-factor (b .block) (b .block-low) (b .row) (b .row-low) t y
+            ∙ ap (λ x. c′ .factors (x + b .row) t) (sym (sumTo-ext (b .block) (λ i g. lists .powers i (let z = b .block-low in omega arith)))) ∙ ap (λ x. c′ .factors x t) (sym (b .at))
+        go (no y) =
+            let y′ = lt-of-not-le y in
+            h .factors-rest j l t (omega arith) v ∙ sym (h′ .factors-rest j (omega arith) t (omega arith) (omega arith))
+
+    e-cofactor : (i : ℕ) → i < c .r - 2 → (j : ℕ) → j < codegree (c .D) (c .power) i → (t : ℕ) → t < c .k → cofactorOf c i j t ≡ cofactorOf c′ i j t
+    e-cofactor i l j g t v =
+        h .cofactors i l j g t v ∙ after-ext (c .p) (c .k) (c .r) (c .power) (c′ .power) (factorOf c) (factorOf c′) (lists .powers) e-factor i j t v
+        ∙ ap₂ (λ p r. after p r (c′ .power) (factorOf c′) i j t) same-modulus (lists .counts)
+        ∙ sym (h′ .cofactors i (let z = lists .counts in omega arith) j (subst (λ x. j < x) (e-codegree i (omega arith)) g) t (omega arith))
+
+    e-cofactors : (j t : ℕ) → j < corows c → t < c .N → c .cofactors j t ≡ c′ .cofactors j t
+    e-cofactors j t l v = go (decLe (suc t) (c .k))
+      where
+        b : Block (c .r - 2) (codegree (c .D) (c .power)) j
+        b = locate (c .r - 2) (codegree (c .D) (c .power)) j l
+
+        go : Dec (suc t ≤ c .k) → c .cofactors j t ≡ c′ .cofactors j t
+        go (yes y) =
+            ap (λ x. c .cofactors x t) (b .at) ∙ e-cofactor (b .block) (b .block-low) (b .row) (b .row-low) t y
+            ∙ ap (λ x. c′ .cofactors (x + b .row) t) (sym (corows-ext (c .D) (c′ .D) (b .block) (c .power) (c′ .power) eD (λ i g. lists .powers i (let z = b .block-low in omega arith)))) ∙ ap (λ x. c′ .cofactors x t) (sym (b .at))
+        go (no y) =
+            let y′ = lt-of-not-le y in
+            let z = e-corows in
+            h .cofactors-rest j l t (omega arith) v ∙ sym (h′ .cofactors-rest j (omega arith) t (omega arith) (omega arith))
+
+    pub good-unique : SameContent c c′
+    good-unique = record {
+      modulus = same-modulus;
+      degree = eD;
+      width = eN;
+      terms = ek;
+      count = lists .counts;
+      roots = lists .roots;
+      powers = lists .powers;
+      polynomial = ef;
+      factors = e-factors;
+      cofactors = e-cofactors;
+    }
+
+module _ (s u : List ℕ) (h : Sound s) (h′ : Sound u) (ep : modulus s ≡ modulus u) (eD : degree s ≡ degree u) (eN : width s ≡ width u) (ek : terms s ≡ terms u)
+    (ef : (j t : ℕ) → j ≤ degree s → t < width s → polynomial s j t ≡ polynomial u j t) where
+  abbrev same : SameContent (contentOf s) (contentOf u)
+  same = good-unique (contentOf s) (contentOf u) (sound-good s h) (sound-good u h′) ep eD eN ek ef
+
+  pub sound-end : end s ≡ end u
+  sound-end = same-size (contentOf s) (contentOf u) same
+
+  pub sound-unique : (i : ℕ) → i < end s → word s i ≡ word u i
+  sound-unique i l =
+      let z = sound-end in
+      sound-words s h i l ∙ ap (λ x. word x i) (words-same (contentOf s) (contentOf u) same) ∙ sym (sound-words u h′ i (omega arith))
+
+  pub sound-take-unique : take (end s) s ≡ take (end s) u
+  sound-take-unique = sound-take s h ∙ words-same (contentOf s) (contentOf u) same ∙ sym (sound-take u h′) ∙ ap (λ n. take n u) (sym sound-end)
+
+pub holds-unique : (g : Given) (k : ℕ) (s u : List ℕ) → Holds g k s → Holds g k u → take (end s) s ≡ take (end s) u
+holds-unique g k s u h h′ =
+    let eD = h .same-degree in let eD′ = h′ .same-degree in let eN = h .same-width in let eN′ = h′ .same-width in
+    sound-take-unique s u (h .sound) (h′ .sound) (h .same-modulus ∙ sym (h′ .same-modulus)) (eD ∙ sym eD′) (eN ∙ sym eN′) (h .same-terms ∙ sym (h′ .same-terms))
+    (λ j t l v. h .same-polynomial j l t v ∙ sym (h′ .same-polynomial j (omega arith) t (omega arith)))

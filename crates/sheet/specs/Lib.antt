@@ -1,0 +1,4 @@
+pub mod Factors
+pub mod Layout
+pub mod Sheet
+pub mod Calls

@@ -1,0 +1,249 @@
+-- The sound sheet, and what open, extend and reading a factor answer and leave.
+--   Sound s            all that document 01 says of a sheet, clause by clause; it depends on the words alone
+--   soundTest s        the same as a test that computes (`sound-test` shows that they are one)
+--   Given              what open is given: p, D, N, the rows of the polynomial and the roots
+--   powersOf g         powers, all 1 or more, of the listed roots that give f at X = 0, where there are any
+--   needed g           T
+--   openChecks, extendChecks, readChecks   the checks
+--   Holds g k s        s is a sound sheet that holds what open was given, with k terms
+--   Opened, Extended   what open and extend answer and leave
+--   readFactor, readPart   what reading factor i answers
+-- Assumes nothing.
+use Prim.Native.Nat.{ℕ, zero, suc, _+_, _-_, _*_, _≤_, _<_, _%_}
+use mathlib.Core.Path.{_≡_}
+use mathlib.Core.Logic.{_≢_}
+use mathlib.Core.Bool.{Bool, true, false, not, _||_}
+use mathlib.Core.Option.{Option, none, some}
+use mathlib.Core.List.{List, [], _∷_, _++_, map}
+use lib.Dec.{leb, ltb, eqb}
+use lib.ListN.{length, drop}
+use Rattle.algebra.specs.Sums.{sumTo}
+use Rattle.algebra.specs.Fp.{Prime}
+use Rattle.numbers.specs.Words.{word, allTo, all, firstLarge, outside, part}
+use Rattle.numbers.specs.Divisor.{leastDivisor}
+use Rattle.numbers.specs.Refusals.{Check, check, judge, Outcome, accepted, refused, result, modulusChecks, unreduced, largestModulus}
+use Rattle.numbers.specs.declared.refusal.Verdict.{Verdict}
+use Rattle.numbers.specs.declared.refusal.Verdict.the-variants.{Pass, Refuse}
+use Rattle.pair.specs.Pair.{unit, monic, Leaves}
+use Rattle.sheet.specs.declared.Factor.{Factor}
+use Rattle.sheet.specs.declared.FactorAnswer.{FactorAnswer}
+use Rattle.sheet.specs.declared.FactorAnswer.the-variants.{Is, Refused}
+use Rattle.sheet.specs.Factors.{product, split, rootPower, IsFactors}
+use Rattle.sheet.specs.Layout.{rowsAt, modulus, degree, width, terms, count, rootsFrom, polynomialFrom, factorsFrom, cofactorsFrom, codegree, total, root, power, end, polynomial, factorRows, factor, cofactorRows, cofactor}
+
+-- Sound, clause by clause.
+pub record Sound (s : List ℕ) : Type 0 where
+  -- the header
+  pub prime : Prime (modulus s)
+  pub small : modulus s ≤ largestModulus
+  pub degree-low : 1 ≤ degree s
+  pub degree-high : degree s ≤ 32
+  pub width-high : width s ≤ 256
+  pub terms-low : 1 ≤ terms s
+  pub terms-high : terms s ≤ width s
+  pub offset-roots : word s 5 ≡ rootsFrom
+  pub offset-polynomial : word s 6 ≡ polynomialFrom (count s)
+  pub offset-factors : word s 7 ≡ factorsFrom (degree s) (width s) (count s)
+  pub offset-cofactors : word s 8 ≡ cofactorsFrom (degree s) (width s) (count s)
+  pub offset-end : word s 9 ≡ end s
+  pub long : end s ≤ length s
+  -- the polynomial: words below p, row D is 1, 0, 0, ..
+  pub polynomial-reduced : (j : ℕ) → j ≤ degree s → (t : ℕ) → t < width s → polynomial s j t < modulus s
+  pub polynomial-monic : (t : ℕ) → t < width s → polynomial s (degree s) t ≡ unit t
+  -- roots, powers and factors
+  pub factors : IsFactors (modulus s) (degree s) (terms s) (count s) (polynomial s) (root s) (power s) (factor s)
+  pub factors-reduced : (j : ℕ) → j < degree s → (t : ℕ) → t < terms s → factorRows s j t < modulus s
+  pub factors-rest : (j : ℕ) → j < degree s → (t : ℕ) → terms s ≤ t → t < width s → factorRows s j t ≡ 0
+  -- cofactor i is the product of the factors after i
+  pub cofactors : (i : ℕ) → i < count s - 2 → (j : ℕ) → j < codegree (degree s) (power s) i → (t : ℕ) → t < terms s
+      → cofactor s i j t ≡ product (modulus s) (count s - suc i) (λ l. monic (power s (suc i + l)) (factor s (suc i + l))) j t
+  pub cofactors-rest : (j : ℕ) → j < sumTo (count s - 2) (codegree (degree s) (power s)) → (t : ℕ) → terms s ≤ t → t < width s → cofactorRows s j t ≡ 0
+
+-- The same as a test that computes (`sound-test` shows that they are one).
+unfoldable pub primeTest : ℕ → Bool
+primeTest p = all (leb 2 p ∷ eqb (leastDivisor p) p ∷ [])
+
+unfoldable pub factorsTest : (p D k r : ℕ) (f : ℕ → ℕ → ℕ) (root power : ℕ → ℕ) (a : ℕ → ℕ → ℕ → ℕ) → Bool
+factorsTest p D k r f root power a =
+    all (
+    allTo (r - 1) (λ i. ltb (root i) (root (suc i)))
+    ∷ allTo r (λ i. ltb (root i) p)
+    ∷ allTo r (λ i. leb 1 (power i))
+    ∷ eqb (sumTo r power) D
+    ∷ allTo (suc D) (λ j. eqb (split p r root power j) (f j zero))
+    ∷ allTo r (λ i. allTo (power i) (λ j. eqb (a i j zero) (rootPower p (root i) (power i) j)))
+    ∷ allTo (suc D) (λ j. allTo k (λ t. eqb (product p r (λ i. monic (power i) (a i)) j t) (f j t)))
+    ∷ []
+    )
+
+unfoldable pub headerTest : List ℕ → Bool
+headerTest s =
+    all (
+    primeTest (modulus s)
+    ∷ leb (modulus s) largestModulus
+    ∷ leb 1 (degree s)
+    ∷ leb (degree s) 32
+    ∷ leb (width s) 256
+    ∷ leb 1 (terms s)
+    ∷ leb (terms s) (width s)
+    ∷ eqb (word s 5) rootsFrom
+    ∷ eqb (word s 6) (polynomialFrom (count s))
+    ∷ eqb (word s 7) (factorsFrom (degree s) (width s) (count s))
+    ∷ eqb (word s 8) (cofactorsFrom (degree s) (width s) (count s))
+    ∷ eqb (word s 9) (end s)
+    ∷ leb (end s) (length s)
+    ∷ []
+    )
+
+unfoldable pub bodyTest : List ℕ → Bool
+bodyTest s =
+    all (
+    allTo (suc (degree s)) (λ j. allTo (width s) (λ t. ltb (polynomial s j t) (modulus s)))
+    ∷ allTo (width s) (λ t. eqb (polynomial s (degree s) t) (unit t))
+    ∷ factorsTest (modulus s) (degree s) (terms s) (count s) (polynomial s) (root s) (power s) (factor s)
+    ∷ allTo (degree s) (λ j. allTo (terms s) (λ t. ltb (factorRows s j t) (modulus s)))
+    ∷ allTo (degree s) (λ j. allTo (width s - terms s) (λ t. eqb (factorRows s j (terms s + t)) 0))
+    ∷ allTo (count s - 2) (λ i. allTo (codegree (degree s) (power s) i) (λ j. allTo (terms s) (λ t.
+    eqb (cofactor s i j t) (product (modulus s) (count s - suc i) (λ l. monic (power s (suc i + l)) (factor s (suc i + l))) j t))))
+    ∷ allTo (sumTo (count s - 2) (codegree (degree s) (power s))) (λ j. allTo (width s - terms s) (λ t. eqb (cofactorRows s j (terms s + t)) 0))
+    ∷ []
+    )
+
+unfoldable pub soundTest : List ℕ → Bool
+soundTest s = elim (headerTest s) [ true ↦ bodyTest s | false ↦ false ]
+
+-- What open is given: p, D, N, the rows of the polynomial and the roots.
+pub record Given : Type 0 where
+  pub p : ℕ
+  pub D : ℕ
+  pub N : ℕ
+  pub rows : List ℕ
+  pub roots : List ℕ
+
+abbrev pub given-polynomial : Given → ℕ → ℕ → ℕ
+given-polynomial g = rowsAt (g .rows) 0 (g .N)
+
+-- the lists of r numbers, each 1 or more, whose sum is D
+unfoldable pub upwards : ℕ → (ℕ → List (List ℕ)) → List (List ℕ)
+upwards zero f = []
+upwards (suc n) f = upwards n f ++ f (suc n)
+
+unfoldable pub choices : ℕ → ℕ → List (List ℕ)
+choices zero zero = [] ∷ []
+choices zero (suc D) = []
+choices (suc r) D = upwards D (λ m. map (λ l. m ∷ l) (choices r (D - m)))
+
+unfoldable pub find : (List ℕ → Bool) → List (List ℕ) → Option (List ℕ)
+find test [] = none
+find test (l ∷ ls) = elim (test l) [ true ↦ some l | false ↦ find test ls ]
+
+-- these powers of the listed roots give f at X = 0
+unfoldable pub splitsTest : Given → List ℕ → Bool
+splitsTest g powers = allTo (suc (g .D)) (λ j. eqb (split (g .p) (length (g .roots)) (word (g .roots)) (word powers) j) (given-polynomial g j zero))
+
+unfoldable pub powersOf : Given → Option (List ℕ)
+powersOf g = find (splitsTest g) (choices (length (g .roots)) (g .D))
+
+abbrev pub isNone : {A : Type 0} → Option A → Bool
+isNone none = true
+isNone (some a) = false
+
+abbrev pub orNil : Option (List ℕ) → List ℕ
+orNil none = []
+orNil (some l) = l
+
+-- T, from what open is given
+unfoldable pub needed : Given → ℕ
+needed g = total (g .D) (g .N) (length (g .roots)) (word (orNil (powersOf g)))
+
+-- `room` is the length of the output
+abbrev pub openChecks : Given → ℕ → List Check
+openChecks g room =
+    modulusChecks (g .p) ++ (
+    check 3 (outside 1 32 (g .D)) 0
+    ∷ check 4 (outside 1 256 (g .N)) 0
+    ∷ check 5 (not (eqb (length (g .rows)) ((g .D + 1) * g .N))) 0
+    ∷ check 6 (unreduced (g .p) (g .rows ++ g .roots)) (firstLarge (g .p) (g .rows ++ g .roots))
+    ∷ check 7 (not (allTo (g .N) (λ t. eqb (given-polynomial g (g .D) t) (unit t)))) 0
+    ∷ check 8 (outside 1 (g .D) (length (g .roots)) || not (allTo (length (g .roots) - 1) (λ i. ltb (word (g .roots) i) (word (g .roots) (suc i))))) 0
+    ∷ check 9 (isNone (powersOf g)) 0
+    ∷ check 10 (ltb room (needed g)) (needed g)
+    ∷ []
+    )
+
+unfoldable pub openVerdict : Given → ℕ → Verdict
+openVerdict g room = judge (openChecks g room)
+
+-- a sound sheet that holds what open was given, with k terms
+pub record Holds (g : Given) (k : ℕ) (s : List ℕ) : Type 0 where
+  pub sound : Sound s
+  pub same-modulus : modulus s ≡ g .p
+  pub same-degree : degree s ≡ g .D
+  pub same-width : width s ≡ g .N
+  pub same-count : count s ≡ length (g .roots)
+  pub same-roots : (i : ℕ) → i < count s → root s i ≡ word (g .roots) i
+  pub same-polynomial : (j : ℕ) → j ≤ degree s → (t : ℕ) → t < width s → polynomial s j t ≡ given-polynomial g j t
+  pub same-terms : terms s ≡ k
+
+pub record OpenDone (g : Given) (old new : List ℕ) (T : ℕ) : Type 0 where
+  pub same-length : length new ≡ length old
+  pub holds : Holds g 1 new
+  pub fills : end new ≡ T
+  pub rest : drop T new ≡ drop T old
+
+-- open: lent `old`, it answers `answer` and leaves `new`
+pub record Opened (g : Given) (old : List ℕ) (answer : Outcome ℕ) (new : List ℕ) : Type 0 where
+  pub answers : answer ≡ result (openVerdict g (length old)) (needed g)
+  pub leaves : Leaves (openVerdict g (length old)) (OpenDone g old new (needed g)) old new
+
+abbrev pub extendChecks : List ℕ → ℕ → List Check
+extendChecks s w =
+    check 13 (not (soundTest s)) 0
+    ∷ check 14 (outside 1 (width s) w) 0
+    ∷ check 15 (ltb w (terms s)) 0
+    ∷ []
+
+unfoldable pub extendVerdict : List ℕ → ℕ → Verdict
+extendVerdict s w = judge (extendChecks s w)
+
+-- word i stands in columns k..w − 1 of the factors' or the cofactors' rows
+abbrev pub InColumns : List ℕ → ℕ → ℕ → Type 0
+InColumns s w i =
+    let first = factorsFrom (degree s) (width s) (count s) in
+    (first ≤ i) × (i < end s) × (terms s ≤ (i - first) % width s) × ((i - first) % width s < w)
+
+pub record ExtendDone (old : List ℕ) (w : ℕ) (new : List ℕ) : Type 0 where
+  pub same-length : length new ≡ length old
+  pub sound : Sound new
+  pub reached : terms new ≡ w
+  pub rest : (i : ℕ) → i ≢ 3 → ¬ InColumns old w i → word new i ≡ word old i
+
+-- extend: lent `old`, it answers `answer` and leaves `new`
+pub record Extended (old : List ℕ) (w : ℕ) (answer : Outcome ℕ) (new : List ℕ) : Type 0 where
+  pub answers : answer ≡ result (extendVerdict old w) w
+  pub leaves : Leaves (extendVerdict old w) (ExtendDone old w new) old new
+
+-- Reading factor i: its root, its power, and where its rows stand (from, to).
+abbrev pub readChecks : List ℕ → ℕ → List Check
+readChecks s i = check 13 (not (soundTest s)) 0 ∷ check 16 (leb (count s) i) 0 ∷ []
+
+abbrev pub rowsStart : List ℕ → ℕ → ℕ
+rowsStart s i = factorsFrom (degree s) (width s) (count s) + sumTo i (power s) * width s
+
+abbrev pub rowsEnd : List ℕ → ℕ → ℕ
+rowsEnd s i = rowsStart s i + power s i * width s
+
+-- What reading factor i answers: its root and power, and the part of the sheet that holds its rows, which is empty on a refusal.
+abbrev pub readVerdict : List ℕ → ℕ → Verdict
+readVerdict s i = judge (readChecks s i)
+
+abbrev pub readFactor : List ℕ → ℕ → Factor
+readFactor s i = record { root = root s i; power = power s i }
+
+abbrev pub factorOutcome : FactorAnswer → Outcome Factor
+factorOutcome (Is f) = accepted f
+factorOutcome (Refused r) = refused (r .number) (r .detail)
+
+abbrev pub readPart : Verdict → List ℕ → ℕ → List ℕ
+readPart Pass s i = part s (rowsStart s i) (power s i * width s)
+readPart (Refuse r) s i = []
