@@ -12,3 +12,10 @@ pub mod OpeningLaws
 pub mod ExtendingLaws
 pub mod TotalLaws
 pub mod Demand3Laws
+pub mod StagesLaws
+pub mod LineLaws
+pub mod LinkLaws
+pub mod PlacesLaws
+pub mod ChainLaws
+pub mod SoundStagesLaws
+pub mod ReadingLaws

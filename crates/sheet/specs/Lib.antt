@@ -2,3 +2,5 @@ pub mod Factors
 pub mod Layout
 pub mod Sheet
 pub mod Calls
+pub mod Stages
+pub mod Reading

@@ -1,0 +1,93 @@
+-- The coefficients of (Y − c)^m, as the shift of Y^m to Y − c gives them.
+--   line-mod     (Y + x)^m looks at x modulo p only
+--   line-words   what stands in the array after the shift
+-- Assumes nothing.
+use mathlib.Core.Path.{_≡_, refl, sym, ap, ap₂, _∙_}
+use mathlib.Core.List.{List, _++_}
+use Prim.Native.Nat.{ℕ, zero, suc, _+_, _-_, _*_, _%_, _≤_, _<_}
+use native.Mathlib.Nat.{mod-add-mod, mod-eq-of-lt, zero-mul, one-mul, zero-add, lt-of-not-le}
+use native.Mathlib.Numerals.{add-one}
+use native.Mathlib.Decide.{decLe}
+use native.Mathlib.Omega.{arith}
+use lib.ListN.{length, take, drop, set, length-set, List·getD-append}
+use lib.Seq.{getD-take, getD-set-same, getD-set-other, length-take-le}
+use Rattle.algebra.specs.Sums.{sumTo, sumTo-suc, sumTo-zeros}
+use Rattle.algebra.specs.Fp.{mod-mul-mod}
+use Rattle.numbers.specs.Words.{word, firstLarge, over, AllBelow}
+use Rattle.numbers.proofs.WordsLaws.{none-large, over-whole}
+use Rattle.series.proofs.SeriesLaws.{word-below}
+use Rattle.rows.specs.Rows.{rowsOf, table, linePower, shifted}
+use Rattle.rows.proofs.RowsLaws.{zeros, rows-below, line-lt, length-table, word-table}
+use Rattle.sheet.specs.Factors.{rootPower}
+
+pub mod-same : (p a b x : ℕ) → a % p ≡ b % p → (a + x) % p ≡ (b + x) % p
+mod-same p a b x e = sym (mod-add-mod a p x) ∙ ap (λ (y : ℕ). (y + x) % p) e ∙ mod-add-mod b p x
+
+pub line-mod : (p x m j : ℕ) → linePower p (x % p) m j ≡ linePower p x m j
+unfolding linePower
+line-mod p x zero zero = refl
+line-mod p x zero (suc j) = refl
+line-mod p x (suc m) zero = mod-mul-mod x (linePower p (x % p) m zero) p ∙ ap (λ (y : ℕ). x * y % p) (line-mod p x m zero)
+line-mod p x (suc m) (suc j) =
+    mod-same p (x % p * linePower p (x % p) m (suc j)) (x * linePower p (x % p) m (suc j)) (linePower p (x % p) m j) (mod-mul-mod x (linePower p (x % p) m (suc j)) p)
+    ∙ ap₂ (λ (y z : ℕ). (x * y + z) % p) (line-mod p x m (suc j)) (line-mod p x m j)
+
+zeros-below : AllBelow 1 zeros
+unfolding firstLarge
+zeros-below = none-large 1 zeros (let e : firstLarge 1 zeros ≡ 33 = refl in omega arith)
+
+zero-word : (i : ℕ) → word zeros i ≡ 0
+zero-word i = omega (arith, word-below 1 zeros (omega arith) zeros-below i)
+
+-- the array that holds Y^m
+abbrev pub unitAt : ℕ → List ℕ
+unitAt m = set zeros m 1
+
+module _ (m : ℕ) (small : m ≤ 32) where
+  pub unit-long : length (take (m + 1) (unitAt m)) ≡ m + 1
+  unit-long = length-take-le (m + 1) (unitAt m) (omega (arith, length-set zeros m 1))
+
+  unit-low : (i : ℕ) → i < m → word (unitAt m) i ≡ 0
+  unit-low i l = getD-set-other zeros m i 1 0 (λ e. let z : ⊥ = omega arith in z) ∙ zero-word i
+
+  unit-top : word (unitAt m) m ≡ 1
+  unit-top = getD-set-same zeros m 1 0 (omega arith)
+
+  pub unit-below : (p : ℕ) → 2 ≤ p → AllBelow p (take (m + 1) (unitAt m))
+  unit-below p two i l =
+      let g : i < m + 1 = omega (arith, unit-long) in
+      rw (getD-take (m + 1) (unitAt m) i 0 g) (go (decLe (suc i) m))
+    where
+      go : Dec (suc i ≤ m) → word (unitAt m) i < p
+      go (yes u) = omega (arith, unit-low i u)
+      go (no u) =
+          let v = lt-of-not-le u in
+          let e : i ≡ m = omega (arith, unit-long) in
+          rw e (omega (arith, unit-top))
+
+  unit-row : (i : ℕ) → i < m + 1 → rowsOf (take (m + 1) (unitAt m)) 1 (m + 1) i 0 ≡ word (unitAt m) i
+  unit-row i l =
+      rows-below (take (m + 1) (unitAt m)) 1 (m + 1) i 0 l ∙ ap (word (take (m + 1) (unitAt m))) (let e : i * 1 + 0 ≡ i = omega arith in e)
+      ∙ getD-take (m + 1) (unitAt m) i 0 l
+
+  shifted-unit : (p c j : ℕ) → 2 ≤ p → shifted p (m + 1) c (rowsOf (take (m + 1) (unitAt m)) 1 (m + 1)) j 0 ≡ linePower p c m j
+  unfolding shifted
+  shifted-unit p c j two =
+      let F : ℕ → ℕ = λ i. rowsOf (take (m + 1) (unitAt m)) 1 (m + 1) i 0 * linePower p c i j in
+      let z : sumTo m F ≡ 0 = sumTo-zeros m F (λ i l. ap (λ (x : ℕ). x * linePower p c i j) (unit-row i (omega arith) ∙ unit-low i l) ∙ zero-mul _) in
+      let t : F m ≡ linePower p c m j = ap (λ (x : ℕ). x * linePower p c m j) (unit-row m (omega arith) ∙ unit-top) ∙ one-mul _ in
+      let e : sumTo (m + 1) F ≡ linePower p c m j = ap (λ (k : ℕ). sumTo k F) (add-one m) ∙ sumTo-suc m F ∙ ap₂ _+_ z t ∙ zero-add _ in
+      ap (λ (x : ℕ). x % p) e ∙ mod-eq-of-lt (line-lt p c m j two)
+
+  pub line-words : (p c : ℕ) (ws : List ℕ) → 2 ≤ p
+      → ws ≡ over (table (m + 1) 1 (shifted p (m + 1) ((p - c) % p) (rowsOf (take (m + 1) (unitAt m)) 1 (m + 1)))) (take (m + 1) zeros)
+      → (i : ℕ) → i < m → word (ws ++ drop (m + 1) zeros) i ≡ rootPower p c m i
+  line-words p c ws two e i l =
+      let T = table (m + 1) 1 (shifted p (m + 1) ((p - c) % p) (rowsOf (take (m + 1) (unitAt m)) 1 (m + 1))) in
+      let long : length T ≡ m + 1 = length-table (m + 1) 1 _ ∙ (let q : (m + 1) * 1 ≡ m + 1 = omega arith in q) in
+      let whole : ws ≡ T = e ∙ over-whole T (take (m + 1) zeros) (long ∙ sym (length-take-le (m + 1) zeros (omega arith))) in
+      rw whole
+      (List·getD-append T (drop (m + 1) zeros) 0 i (omega arith)
+      ∙ ap (word T) (let q : i ≡ i * 1 + 0 = omega arith in q)
+      ∙ word-table (m + 1) 1 _ i 0 (omega arith) (omega arith)
+      ∙ shifted-unit p ((p - c) % p) i two ∙ line-mod p (p - c) m i)

@@ -1,0 +1,30 @@
+-- `sheet::layout::factors_from` meets its contract.
+-- Assumes nothing.
+use Prim.Native.Nat.{_+_}
+use native.Mathlib.Omega.{arith}
+use Rattle.rows.proofs.RowsLaws.{rows-small}
+use borrow.Author.Needs.{needs}
+use Rattle.sheet.proofs.layout.factors_from.Statement.{statement}
+use Rattle.sheet.proofs.layout.factors_from.Tie as tie
+
+mul-result : tie.Need-mul-result
+mul-result c = search needs
+
+add-result : tie.Need-add-result
+add-result c = search needs
+
+add-result-2 : tie.Need-add-result-2
+add-result-2 c = search needs
+
+mul-result-2 : tie.Need-mul-result-2
+mul-result-2 c = omega (arith, rows-small (c .args .d + 1) (c .args .n) (omega arith) (omega arith))
+
+add-result-3 : tie.Need-add-result-3
+add-result-3 c = omega (arith, rows-small (c .args .d + 1) (c .args .n) (omega arith) (omega arith))
+
+returns : tie.Need-returns
+returns c = search needs
+
+pub factors-from-spec : {M : Type 1} → statement M
+factors-from-spec =
+    tie.close (tie.spec mul-result add-result add-result-2 mul-result-2 add-result-3 returns)

@@ -1,0 +1,72 @@
+-- `sheet::layout::rows_before` meets its contract. The loop's invariant: the sum is that of the powers before l.
+-- Assumes nothing.
+use mathlib.Core.Path.{_≡_, ap, _∙_}
+use Prim.Native.Nat.{ℕ, _≤_, _-_, _+_, _*_}
+use native.Mathlib.Omega.{arith}
+use Rattle.algebra.specs.Sums.{sumTo, sumTo-zero, sumTo-bound}
+use Rattle.series.proofs.SeriesLaws.{sum-next}
+use Rattle.sheet.specs.Layout.{power}
+use borrow.Author.Needs.{needs}
+use Rattle.sheet.proofs.layout.rows_before.Statement.{statement}
+use Rattle.sheet.proofs.layout.rows_before.Tie as tie
+
+abbrev Inv-loop : tie.InvT-loop
+Inv-loop s i sum₀ l₀ sum l = (l ≤ i) × (sum ≡ sumTo l (power s))
+
+abbrev μ-loop : tie.MeasureT-loop
+μ-loop s i sum₀ l₀ sum l = i - l
+
+loop-holds : tie.Need-loop-holds Inv-loop μ-loop
+loop-holds c = (omega arith, omega (arith, sumTo-zero (power (c .args .s .now))))
+
+mul-sum : tie.Need-mul-sum Inv-loop μ-loop
+mul-sum c = search needs
+
+add-sum : tie.Need-add-sum Inv-loop μ-loop
+add-sum c = search needs
+
+add-sum-2 : tie.Need-add-sum-2 Inv-loop μ-loop
+add-sum-2 c = search needs
+
+mul-sum-2 : tie.Need-mul-sum-2 Inv-loop μ-loop
+mul-sum-2 c = search needs
+
+shared-slice-read-sum : tie.Need-shared-slice-read-sum Inv-loop μ-loop
+shared-slice-read-sum c = search needs
+
+cast-sum : tie.Need-cast-sum Inv-loop μ-loop
+cast-sum c = omega (arith, c .shared-slice-known .given (10 + 2 * c .before .before .loop .l + 1))
+
+add-sum-3 : tie.Need-add-sum-3 Inv-loop μ-loop
+add-sum-3 c = omega (arith, c .before .before .before .pre .2 (c .before .before .loop .l) (omega arith), sumTo-bound (c .before .before .loop .l) 32 (power (c .before .before .before .args .s .now)) (λ k g. c .before .before .before .pre .2 k (omega arith)))
+
+add-l : tie.Need-add-l Inv-loop μ-loop
+add-l c = search needs
+
+loop-less : tie.Need-loop-less Inv-loop μ-loop
+loop-less c = search needs
+
+loop-again : tie.Need-loop-again Inv-loop μ-loop
+loop-again c = (omega arith, omega (arith, sum-next (c .before .before .loop .l) (power (c .before .before .before .args .s .now))))
+
+returns : tie.Need-returns Inv-loop μ-loop
+returns c = let e : c .before .loop .l ≡ c .before .before .args .i = omega arith in c .before .loop .inv .1 ∙ ap (λ (n : ℕ). sumTo n (power (c .before .before .args .s .now))) e
+
+pub rows-before-spec : {M : Type 1} → statement M
+rows-before-spec =
+    tie.close
+    (tie.spec
+    Inv-loop
+    μ-loop
+    loop-holds
+    mul-sum
+    add-sum
+    add-sum-2
+    mul-sum-2
+    shared-slice-read-sum
+    cast-sum
+    add-sum-3
+    add-l
+    loop-less
+    loop-again
+    returns)

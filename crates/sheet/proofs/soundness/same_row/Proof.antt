@@ -1,0 +1,107 @@
+-- `sheet::soundness::same_row` meets its contract. The loop's invariant: the columns before t are the same.
+-- Assumes nothing.
+use mathlib.Core.Path.{_≡_, sym, _∙_}
+use Prim.Native.Nat.{ℕ, _≤_, _<_, _-_}
+use native.Mathlib.Omega.{arith}
+use borrow.Author.Count.{below-more}
+use Rattle.numbers.specs.Words.{word}
+use Rattle.rows.specs.Rows.{rowsOf, mul}
+use Rattle.pair.specs.Pair.{monic}
+use Rattle.pair.proofs.ProductLaws.{row-small, leading-small}
+use Rattle.sheet.proofs.StagesLaws.{decides-yes, decides-no}
+use Rattle.sheet.proofs.LinkLaws.{link-turn}
+use borrow.Author.Needs.{needs}
+use Rattle.sheet.proofs.soundness.same_row.Statement.{statement}
+use Rattle.sheet.proofs.soundness.same_row.Tie as tie
+
+abbrev Inv-loop : tie.InvT-loop
+Inv-loop p low m high k n j f terms modulus t₀ t = (t ≤ terms) × ((i : ℕ) → i < t → mul p (monic m (rowsOf low n m)) (monic k (rowsOf high n k)) j i ≡ word f i)
+
+abbrev μ-loop : tie.MeasureT-loop
+μ-loop p low m high k n j f terms modulus t₀ t = terms - t
+
+loop-holds : tie.Need-loop-holds Inv-loop μ-loop
+loop-holds c = (omega arith, λ k l. absurd (let z : ⊥ = omega arith in z))
+
+add-passes : tie.Need-add-passes Inv-loop μ-loop
+add-passes c = search needs
+
+passes-requires : tie.Need-passes-requires Inv-loop μ-loop
+passes-requires c κs = (c .before .before .before .before .before .pre .2, c .before .before .before .before .before .pre .3, omega arith, omega arith, omega arith, omega arith, omega arith, c .before .before .before .before .before .pre .10, c .before .before .before .before .before .pre .11)
+
+moved-requires : tie.Need-moved-requires Inv-loop μ-loop
+moved-requires c κs = (c .before .before .before .before .before .before .pre .3, omega arith, omega arith, omega arith, omega arith)
+
+add-sum : tie.Need-add-sum Inv-loop μ-loop
+add-sum c =
+    let a = c .before .before .before .before .before .before .before .args in
+    let x = row-small (a .low .now) (a .m) (a .high .now) (a .k) (a .n) (a .j) (c .before .before .before .loop .t) (c .before .before .before .before .before .before .before .pre .10) (c .before .before .before .before .before .before .before .pre .11) (omega arith) (omega arith) in
+    let y = leading-small (a .low .now) (a .m) (a .high .now) (a .k) (a .n) (a .j) (c .before .before .before .loop .t) (c .before .before .before .before .before .before .before .pre .11) in
+    omega (arith, c .before .passes .ensures, c .moved .ensures)
+
+moved-requires-2 : tie.Need-moved-requires-2 Inv-loop μ-loop
+moved-requires-2 c κs = (c .before .before .before .before .before .before .before .pre .2, omega arith, omega arith, omega arith, omega arith)
+
+add-sum-2 : tie.Need-add-sum-2 Inv-loop μ-loop
+add-sum-2 c =
+    let a = c .before .before .before .before .before .before .before .before .args in
+    let x = row-small (a .low .now) (a .m) (a .high .now) (a .k) (a .n) (a .j) (c .before .before .before .before .loop .t) (c .before .before .before .before .before .before .before .before .pre .10) (c .before .before .before .before .before .before .before .before .pre .11) (omega arith) (omega arith) in
+    let y = leading-small (a .low .now) (a .m) (a .high .now) (a .k) (a .n) (a .j) (c .before .before .before .before .loop .t) (c .before .before .before .before .before .before .before .before .pre .11) in
+    let z = leading-small (a .high .now) (a .k) (a .low .now) (a .m) (a .n) (a .j) (c .before .before .before .before .loop .t) (c .before .before .before .before .before .before .before .before .pre .10) in
+    omega (arith, c .before .before .passes .ensures, c .before .moved .ensures, c .moved2 .ensures)
+
+rem-if1 : tie.Need-rem-if1 Inv-loop μ-loop
+rem-if1 c = search needs
+
+mul-if1 : tie.Need-mul-if1 Inv-loop μ-loop
+mul-if1 c = search needs
+
+shared-slice-read-if1 : tie.Need-shared-slice-read-if1 Inv-loop μ-loop
+shared-slice-read-if1 c = search needs
+
+cast-if1 : tie.Need-cast-if1 Inv-loop μ-loop
+cast-if1 c = omega (arith, c .shared-slice-known4 .given (c .before .before .before .before .before .loop .t))
+
+returns : tie.Need-returns Inv-loop μ-loop
+returns c =
+    let a = c .before .before .before .before .before .before .before .before .before .before .args in
+    let v = link-turn (a .p) (c .before .before .before .before .before .before .before .before .before .before .pre .0) (a .low .now) (a .m) (a .high .now) (a .k) (a .n) (a .j) (c .before .before .before .before .before .before .loop .t) _ _ _ (omega arith) (c .before .before .before .before .passes .ensures) (c .before .before .before .moved .ensures) (c .before .before .moved2 .ensures) in
+    decides-no (λ h. c .if1 .taken (v ∙ h (c .before .before .before .before .before .before .loop .t) (omega arith)))
+
+add-t : tie.Need-add-t Inv-loop μ-loop
+add-t c = search needs
+
+loop-less : tie.Need-loop-less Inv-loop μ-loop
+loop-less c = search needs
+
+loop-again : tie.Need-loop-again Inv-loop μ-loop
+loop-again c =
+    let a = c .before .before .before .before .before .before .before .before .before .before .args in
+    let v = link-turn (a .p) (c .before .before .before .before .before .before .before .before .before .before .pre .0) (a .low .now) (a .m) (a .high .now) (a .k) (a .n) (a .j) (c .before .before .before .before .before .before .loop .t) _ _ _ (omega arith) (c .before .before .before .before .passes .ensures) (c .before .before .before .moved .ensures) (c .before .before .moved2 .ensures) in
+    (omega arith, below-more (λ i. mul (a .p) (monic (a .m) (rowsOf (a .low .now) (a .n) (a .m))) (monic (a .k) (rowsOf (a .high .now) (a .n) (a .k))) (a .j) i ≡ word (a .f .now) i) _ (c .before .before .before .before .before .before .loop .inv .1) (sym v ∙ c .if1 .left))
+
+returns-2 : tie.Need-returns-2 Inv-loop μ-loop
+returns-2 c = decides-yes (λ t l. c .before .loop .inv .1 t (omega arith))
+
+pub same-row-spec : {M : Type 1} → statement M
+same-row-spec =
+    tie.close
+    (tie.spec
+    Inv-loop
+    μ-loop
+    loop-holds
+    add-passes
+    passes-requires
+    moved-requires
+    add-sum
+    moved-requires-2
+    add-sum-2
+    rem-if1
+    mul-if1
+    shared-slice-read-if1
+    cast-if1
+    returns
+    add-t
+    loop-less
+    loop-again
+    returns-2)
