@@ -19,3 +19,13 @@ pub mod PlacesLaws
 pub mod ChainLaws
 pub mod SoundStagesLaws
 pub mod ReadingLaws
+pub mod LiftLinkLaws
+pub mod LinkPartLaws
+pub mod AnswersLaws
+pub mod LiftChainLaws
+pub mod ChainedLaws
+pub mod SoundChainLaws
+pub mod ChainStepLaws
+pub mod ChainLinkingLaws
+pub mod ListedLaws
+pub mod ChainCallLaws

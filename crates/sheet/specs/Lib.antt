@@ -4,3 +4,4 @@ pub mod Sheet
 pub mod Calls
 pub mod Stages
 pub mod Reading
+pub mod Links
