@@ -168,6 +168,147 @@ fn long_pair() {
     say_words(pair::pair(2, 2, 256, &f, 256, &mut out), &out);
 }
 
+fn say_test(s: &[u32]) {
+    if sheet::test(s) {
+        say(b"sound\n");
+    } else {
+        say(b"not sound\n");
+    }
+}
+
+// A sheet of which only the first words are lent.
+fn extend_front(s: &mut [u32], lent: usize, w: u32) -> Answer
+    requires { ⌜ lent ≤ length (now s) ⌝ }
+{
+    sheet::extend(&mut s[..lent], w)
+}
+
+// Document 01's job, Y² − 1 − X over 7, as opened, with one word past its end: worked on in two goes, refused, shortened, damaged.
+fn job_sheet() {
+    let mut s = [
+        7u32,
+        2,
+        3,
+        1,
+        2,
+        10,
+        14,
+        23,
+        29,
+        29,
+        1,
+        1,
+        6,
+        1,
+        6,
+        6,
+        0,
+        0,
+        0,
+        0,
+        1,
+        0,
+        0,
+        6,
+        0,
+        0,
+        1,
+        0,
+        0,
+        99,
+    ];
+    say_test(&s);
+    say_words(sheet::extend(&mut s, 2), &s);
+    say_words(sheet::extend(&mut s, 3), &s);
+    say_words(sheet::extend(&mut s, 2), &s);
+    say_words(sheet::extend(&mut s, 4), &s);
+    say_words(extend_front(&mut s, 28, 3), &s);
+    say_list(sheet::factor_rows(&s, 1));
+    say(b"\n");
+    s[24] = 5;
+    say_test(&s);
+    say_words(sheet::extend(&mut s, 3), &s);
+}
+
+// Y (Y − 1)² (Y − 3) over 5 at X = 0, four terms: a double root, a cofactor, and p barely above the degree.
+fn three_roots() {
+    let mut s = [
+        5u32,
+        4,
+        4,
+        1,
+        3,
+        10,
+        16,
+        36,
+        52,
+        64,
+        0,
+        1,
+        1,
+        2,
+        3,
+        1,
+        0,
+        1,
+        2,
+        3,
+        2,
+        4,
+        0,
+        1,
+        2,
+        0,
+        3,
+        0,
+        0,
+        2,
+        2,
+        2,
+        1,
+        0,
+        0,
+        0,
+        0,
+        0,
+        0,
+        0,
+        1,
+        0,
+        0,
+        0,
+        3,
+        0,
+        0,
+        0,
+        2,
+        0,
+        0,
+        0,
+        2,
+        0,
+        0,
+        0,
+        2,
+        0,
+        0,
+        0,
+        0,
+        0,
+        0,
+        0,
+    ];
+    say_test(&s);
+    say_words(sheet::extend(&mut s, 4), &s);
+    say_test(&s);
+    // more terms than columns; a word of the cofactor changed
+    s[3] = 5;
+    say_test(&s);
+    s[3] = 4;
+    s[63] = 1;
+    say_test(&s);
+}
+
 fn main() {
     all_four(7, 3, 5);
     all_four(65521, 65520, 65520);
@@ -187,4 +328,6 @@ fn main() {
     row_examples();
     pair_examples();
     long_pair();
+    job_sheet();
+    three_roots();
 }
