@@ -1,0 +1,198 @@
+"""The expected output of the program `examples`, by other methods than the engine's: the pair and the factors are found by solving a
+linear system for each column. Writes what crates/examples/stdout holds."""
+def least(p):
+    d=2
+    while d*d<=p:
+        if p%d==0: return d
+        d+=1
+    return p
+def mod(p):
+    if p<2 or p>65535: return (1,0)
+    if least(p)<p: return (2,least(p))
+def operands(p,xs):
+    r=mod(p)
+    if r: return r
+    for i,x in enumerate(xs):
+        if x>=p: return (6,i)
+def show(r,v,p): return f"refused {r[0]} {r[1]}" if r else f"{v} mod {p}"
+for p,a,b in [(7,3,5),(65521,65520,65520),(7,7,5),(7,6,7),(7,8,9),(7,0,0),(91,0,200),(1,0,0),(65536,70000,0),(4294967295,)*3,(2,1,1)]:
+    r=operands(p,[a,b])
+    print("sum",show(r,(a+b)%p,p)); print("difference",show(r,(a-b)%p,p)); print("product",show(r,a*b%p,p))
+    r=operands(p,[a]) or ((12,0) if a==0 else None)
+    print("inverse",show(r,r or pow(a,-1,p),p))
+def inputs(p,n,fs,bounds,outb):
+    r=mod(p)
+    if r: return r
+    if max(bounds+[outb])>32: return (3,0)
+    if not 1<=n<=256: return (4,0)
+    for f,b in zip(fs,bounds):
+        if len(f)!=(b+1)*n: return (5,0)
+    i=0
+    for f in fs:
+        for x in f:
+            if x>=p: return (6,i)
+            i+=1
+def say(r,n,ans,buf):
+    if r: print(f"refused {r[0]} {r[1]}:",*buf)
+    else:
+        buf[:len(ans)]=ans; print(f"done {n}:",*buf)
+def series(op,p,n,g,h,buf):
+    hs=[h] if h is not None else []
+    r=inputs(p,n,[g]+hs,[0]*(1+len(hs)),0) or ((10,n) if len(buf)<n else None)
+    div=h if op=='div' else g
+    if not r and op in('div','inv') and div[0]==0: r=(12,0)
+    a=None
+    if not r:
+        if op=='sum': a=[(x+y)%p for x,y in zip(g,h)]
+        if op=='diff': a=[(x-y)%p for x,y in zip(g,h)]
+        if op=='mul': a=[sum(g[i]*h[t-i] for i in range(t+1))%p for t in range(n)]
+        if op in('div','inv'):
+            f=g if op=='div' else [1]+[0]*(n-1); d=div; a=[]
+            for t in range(n): a.append((f[t]-sum(d[i]*a[t-i] for i in range(1,t+1)))*pow(d[0],-1,p)%p)
+    say(r,n,a,buf)
+g=[1,2,3];h=[4,5,6];buf=[9]*4
+series('sum',7,3,g,h,buf);series('diff',7,3,g,h,buf);series('mul',7,3,g,h,buf);series('div',7,3,g,h,buf);series('inv',7,3,h,None,buf)
+zero=[0,5,6];large=[4,9,7];buf=[9]*4;short=[9]*2
+series('div',7,3,g,zero,buf);series('div',7,3,g,zero,short);series('inv',7,3,zero,None,short)
+series('mul',7,3,g,large,buf);series('mul',7,3,large,g,buf);series('mul',7,4,g,large,buf);series('mul',7,257,g,large,buf);series('mul',6,0,g,large,buf)
+def rows(f,n): return [f[i:i+n] for i in range(0,len(f),n)]
+def rmul(p,F,G,n):
+    R=[[0]*n for _ in range(len(F)+len(G)-1)]
+    for i,a in enumerate(F):
+        for j,b in enumerate(G):
+            for s in range(n):
+                for u in range(n-s): R[i+j][s+u]=(R[i+j][s+u]+a[s]*b[u])%p
+    return sum(R,[])
+def rowmul(p,d,e,n,f,g,buf):
+    r=inputs(p,n,[f,g],[d,e],d+e)
+    if not r and len(buf)<(d+e+1)*n: r=(10,(d+e+1)*n)
+    say(r,(d+e+1)*n,None if r else rmul(p,rows(f,n),rows(g,n),n),buf)
+from math import comb
+def rowshift(p,d,n,f,c,buf):
+    r=inputs(p,n,[f],[d],d) or ((6,(d+1)*n) if c>=p else None) or ((10,(d+1)*n) if len(buf)<(d+1)*n else None)
+    a=None
+    if not r:
+        F=rows(f,n); a=[sum(F[i][t]*comb(i,j)*c**(i-j) for i in range(j,d+1))%p for j in range(d+1) for t in range(n)]
+    say(r,(d+1)*n,a,buf)
+f=[1,1,1,0];g=[2,0,0,3,1,0];buf=[9]*9
+rowmul(5,1,2,2,f,g,buf);rowshift(5,2,2,g,3,buf);rowshift(5,2,2,g,5,buf)
+say(None,4,[(x+x)%5 for x in f],buf)
+rowmul(5,4294967295,1,2,f,f,buf);rowmul(5,17,16,2,f,f,buf);rowmul(5,0,0,2,g[1:3],g[3:5],buf)
+# the pair by a linear system for each column: unknowns P_t (d rows), A_t (D-d+1 rows)
+def solve(p,M,v):
+    n=len(v); M=[r[:]+[x] for r,x in zip(M,v)]
+    for c in range(n):
+        q=next(i for i in range(c,n) if M[i][c]%p); M[c],M[q]=M[q],M[c]
+        inv=pow(M[c][c],-1,p); M[c]=[x*inv%p for x in M[c]]
+        for i in range(n):
+            if i!=c and M[i][c]: k=M[i][c]; M[i]=[(x-k*y)%p for x,y in zip(M[i],M[c])]
+    return [r[-1] for r in M]
+def thepair(p,D,n,f,w):
+    F=rows(f,n); d=next(j for j in range(D+1) if F[j][0])
+    P=[[0]*n for _ in range(d)]; A=[[0]*n for _ in range(D-d+1)]
+    for j in range(D-d+1): A[j][0]=F[d+j][0]
+    for t in range(1,w):
+        M=[[0]*(D+1) for _ in range(D+1)]
+        for i in range(d):
+            for j in range(D-d+1): M[i+j][i]=(M[i+j][i]+A[j][0])%p
+        for j in range(D-d+1): M[d+j][d+j]=1
+        E=[(F[j][t]-sum(P[i][s]*A[j-i][t-s] for i in range(d) if 0<=j-i<=D-d for s in range(1,t)))%p for j in range(D+1)]
+        x=solve(p,M,E)
+        for i in range(d): P[i][t]=x[i]
+        for j in range(D-d+1): A[j][t]=x[d+j]
+    return d,sum(P+A,[])
+def first(p,D,n,f,buf):
+    r=inputs(p,n,[f],[D],D)
+    if r: return r
+    if len(buf)<(D+1)*n: return (10,(D+1)*n)
+    if all(f[j*n]==0 for j in range(D+1)): return (11,0)
+def pair(p,D,n,f,w,buf):
+    r=first(p,D,n,f,buf) or (None if 1<=w<=n else (14,0))
+    if r: say(r,0,None,buf)
+    else:
+        d,a=thepair(p,D,n,f,w); say(None,d,a,buf)
+def cont(p,D,n,f,h,w,buf):
+    r=first(p,D,n,f,buf)
+    if not r and (not 1<=h<=n or buf[:(D+1)*n]!=thepair(p,D,n,f,h)[1]): r=(13,0)
+    r=r or (None if 1<=w<=n else (14,0)) or ((15,0) if w<h else None)
+    if r: say(r,0,None,buf)
+    else:
+        d,a=thepair(p,D,n,f,w); say(None,d,a,buf)
+buf=[9]*13
+f=[0,1,0,0,1,0,0,0,1,0,0,0]
+pair(5,2,4,f,4,buf);pair(5,2,4,f,2,buf);cont(5,2,4,f,2,4,buf)
+cont(5,2,4,f,4,3,buf);cont(5,2,4,f,4,5,buf);cont(5,2,4,f,3,4,buf);cont(5,2,4,f,0,4,buf)
+flat=[0,1,0,0,0,3,0,0,0,0,0,2]
+pair(5,2,4,flat,0,buf);pair(5,2,4,flat,0,[9]*11)
+pair(5,2,4,[0,2,1,0,0,3,4,1,3,1,0,2],4,buf);pair(5,0,4,[3,1,4,1],4,buf);pair(5,2,4,[0,1,2,0,1,0,3,1,0,1,0,4],4,buf)
+f=[0]*768; f[1]=f[256]=f[259]=f[512]=f[513]=1
+pair(2,2,256,f,256,[9]*769)
+
+# sheets: the factors by a linear system for all lower rows of all factors, column by column
+def polymul(p,a,b):
+    r=[0]*(len(a)+len(b)-1)
+    for i,x in enumerate(a):
+        for j,y in enumerate(b): r[i+j]=(r[i+j]+x*y)%p
+    return r
+def factors(p,D,n,f,roots,powers,k):
+    """monic factors as lists of columns, each a list of coefficients"""
+    r=len(roots); F=rows(f,n)
+    fac=[]
+    for c,m in zip(roots,powers):
+        a=[1]
+        for _ in range(m): a=polymul(p,a,[-c%p,1])
+        fac.append([a]+[[0]*(m+1) for _ in range(n-1)])
+    for t in range(1,k):
+        # the coefficient of X^t of the product, with the unknown columns 0
+        def prodcol(t):
+            P=[[1]+[0]*D]+[[0]*(D+1) for _ in range(t)]
+            for g in fac:
+                Q=[[0]*(D+1) for _ in range(t+1)]
+                for s in range(t+1):
+                    for u in range(t+1-s):
+                        for i,x in enumerate(P[s]):
+                            if x:
+                                for j,y in enumerate(g[u]):
+                                    if y and i+j<=D: Q[s+u][i+j]=(Q[s+u][i+j]+x*y)%p
+                P=Q
+            return P[t]
+        base=prodcol(t)
+        M=[[0]*D for _ in range(D)]; col=0; cols=[]
+        for i in range(r):
+            others=[1]
+            for l in range(r):
+                if l!=i: others=polymul(p,others,fac[l][0])
+            for j in range(powers[i]):
+                for e,x in enumerate(others): M[e+j][col]=x
+                cols.append((i,j)); col+=1
+        x=solve(p,M,[(F[e][t]-base[e])%p for e in range(D)])
+        for (i,j),v in zip(cols,x): fac[i][t][j]=v
+    return fac
+def sheet(p,D,n,f,roots,powers,k):
+    fac=factors(p,D,n,f,roots,powers,k); r=len(roots)
+    fr=[fac[i][t][j] if t<k else 0 for i in range(r) for j in range(powers[i]) for t in range(n)]
+    cr=[]
+    for i in range(r-2):
+        deg=sum(powers[i+1:])
+        P=[[1]]+[[0] for _ in range(n-1)]
+        for g in fac[i+1:]:
+            Q=[[0]*(deg+1) for _ in range(n)]
+            for s in range(n):
+                for u in range(n-s):
+                    for a,x in enumerate(P[s]):
+                        for b,y in enumerate(g[u]):
+                            if a+b<=deg: Q[s+u][a+b]=(Q[s+u][a+b]+x*y)%p
+            P=Q
+        cr+=[P[t][j] if t<k else 0 for j in range(deg) for t in range(n)]
+    o6=10+2*r; o7=o6+(D+1)*n; o8=10+2*r+(2*D+1)*n; T=o8+len(cr)
+    return [p,D,n,k,r,10,o6,o7,o8,T]+sum(([c,m] for c,m in zip(roots,powers)),[])+f+fr+cr
+job=(7,2,3,[6,6,0,0,0,0,1,0,0],[1,6],[1,1])
+three=(5,4,4,[0,1,2,3,2,4,0,1,2,0,3,0,0,2,2,2,1,0,0,0],[0,1,3],[1,2,1])
+print("sound")
+for k,w in ((2,2),(3,3)): print(f"done {w}:",*(sheet(*job,k)+[99]))
+s=sheet(*job,3)+[99]
+for r in ("15 0","14 0","13 0"): print(f"refused {r}:",*s)
+print("",*s[26:29])
+s[24]=5
+print("not sound"); print("refused 13 0:",*s)
+print("sound"); print("done 4:",*sheet(*three,4)); print("sound"); print("not sound"); print("not sound")
