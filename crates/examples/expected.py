@@ -186,8 +186,35 @@ def sheet(p,D,n,f,roots,powers,k):
         cr+=[P[t][j] if t<k else 0 for j in range(deg) for t in range(n)]
     o6=10+2*r; o7=o6+(D+1)*n; o8=10+2*r+(2*D+1)*n; T=o8+len(cr)
     return [p,D,n,k,r,10,o6,o7,o8,T]+sum(([c,m] for c,m in zip(roots,powers)),[])+f+fr+cr
+def compositions(D,r):
+    if r==0: return [[]] if D==0 else []
+    return [[m]+rest for m in range(1,D+1) for rest in compositions(D-m,r-1)]
+def opened(p,D,n,f,roots,room):
+    """the refusal, or the sheet with one term; the powers by trying all"""
+    r=mod(p)
+    if r: return r,None
+    if not 1<=D<=32: return (3,0),None
+    if not 1<=n<=256: return (4,0),None
+    if len(f)!=(D+1)*n: return (5,0),None
+    for i,x in enumerate(f+roots):
+        if x>=p: return (6,i),None
+    if f[D*n:]!=[1]+[0]*(n-1): return (7,0),None
+    if not 1<=len(roots)<=D or any(a>=b for a,b in zip(roots,roots[1:])): return (8,0),None
+    for powers in compositions(D,len(roots)):
+        a=[1]
+        for c,m in zip(roots,powers):
+            for _ in range(m): a=polymul(p,a,[-c%p,1])
+        if a==f[::n]:
+            s=sheet(p,D,n,f,roots,powers,1)
+            return ((10,len(s)),None) if room<len(s) else (None,s)
+    return (9,0),None
+def opens(p,D,n,f,roots,buf):
+    r,s=opened(p,D,n,f,roots,len(buf))
+    say(r,s and len(s),s,buf)
 job=(7,2,3,[6,6,0,0,0,0,1,0,0],[1,6],[1,1])
 three=(5,4,4,[0,1,2,3,2,4,0,1,2,0,3,0,0,2,2,2,1,0,0,0],[0,1,3],[1,2,1])
+opens(*job[:5],[99]*28)
+opens(*job[:5],[99]*30)
 print("sound")
 for k,w in ((2,2),(3,3)): print(f"done {w}:",*(sheet(*job,k)+[99]))
 s=sheet(*job,3)+[99]
@@ -195,4 +222,19 @@ for r in ("15 0","14 0","13 0"): print(f"refused {r}:",*s)
 print("",*s[26:29])
 s[24]=5
 print("not sound"); print("refused 13 0:",*s)
-print("sound"); print("done 4:",*sheet(*three,4)); print("sound"); print("not sound"); print("not sound")
+opens(*job[:5],[99]*30)
+answers=[0,2,13,0,0,3,15,0,14,0,9]
+print("done 10:",*answers)
+print("",*(sheet(*job,3)+[99]))
+print("refused 5 0:",*answers)
+print("refused 10 10:",*[9]*9)
+opens(*three[:5],[9]*64)
+print("done 4:",*sheet(*three,4)); print("sound"); print("not sound"); print("not sound")
+f=[0]*32+[1]
+for D in (33,0,32): opens(7,D,1,f,[0],[9]*78)
+f=[0]*512; f[1]=f[256]=1
+for n in (257,256): opens(7,1,n,f,[0],[9]*781)
+print("refused 14 0:",*(sheet(7,1,256,f,[0],[1],1)+[9]))
+print("done 256:",*(sheet(7,1,256,f,[0],[1],256)+[9]))
+g,h=[6,0,0,0,1,0],[6,0,0,0,2,0]
+for f,roots in ((g,[1]),(g,[1,7]),(g,[6,1]),(g,[1,2,6]),(g,[1,6]),(h,[6,1]),(h,[6,8])): opens(7,2,2,f,roots,[9]*3)

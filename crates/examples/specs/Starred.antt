@@ -14,7 +14,9 @@ use Rattle.numbers.specs.declared.refusal.Verdict.the-variants.{Pass, Refuse}
 use Rattle.rows.specs.Rows.{rowsOf, mul, linePower}
 use Rattle.pair.specs.Pair.{monic, orderOf, order, pairChecks, rowsBelow, productTest, pairTest}
 use Rattle.sheet.specs.Factors.{product}
-use Rattle.sheet.specs.Sheet.{primeTest, factorsTest, headerTest, bodyTest, soundTest, Given, upwards, choices, find, splitsTest, powersOf, needed, openVerdict, extendVerdict}
+use Rattle.sheet.specs.Sheet.{primeTest, factorsTest, headerTest, bodyTest, soundTest, Given}
+use Rattle.open.specs.Open.{upwards, choices, find, splitsTest, powersOf, needed, openVerdict}
+use Rattle.lift.specs.Extend.{extendVerdict}
 
 -- Y² − 1 − X over 7, three terms; its sheet with k terms and these factor rows
 abbrev job : Given

@@ -180,76 +180,53 @@ fn say_test(s: &[u32]) {
 fn extend_front(s: &mut [u32], lent: usize, w: u32) -> Answer
     requires { ⌜ lent ≤ length (now s) ⌝ }
 {
-    sheet::extend(&mut s[..lent], w)
+    lift::extend(&mut s[..lent], w)
 }
 
-// Document 01's job, Y² − 1 − X over 7, as opened, with one word past its end: worked on in two goes, refused, shortened, damaged.
+// Document 01's job, Y² − 1 − X over 7, with one word past the sheet's end: worked on in two goes, refused, shortened, damaged.
 fn job_sheet() {
-    let mut s = [
-        7u32,
-        2,
-        3,
-        1,
-        2,
-        10,
-        14,
-        23,
-        29,
-        29,
-        1,
-        1,
-        6,
-        1,
-        6,
-        6,
-        0,
-        0,
-        0,
-        0,
-        1,
-        0,
-        0,
-        6,
-        0,
-        0,
-        1,
-        0,
-        0,
-        99,
-    ];
+    let f = [6u32, 6, 0, 0, 0, 0, 1, 0, 0];
+    let roots = [1u32, 6];
+    let mut short = [99u32; 28];
+    say_words(open::open(7, 2, 3, &f, &roots, &mut short), &short);
+    let mut s = [99u32; 30];
+    say_words(open::open(7, 2, 3, &f, &roots, &mut s), &s);
     say_test(&s);
-    say_words(sheet::extend(&mut s, 2), &s);
-    say_words(sheet::extend(&mut s, 3), &s);
-    say_words(sheet::extend(&mut s, 2), &s);
-    say_words(sheet::extend(&mut s, 4), &s);
+    say_words(lift::extend(&mut s, 2), &s);
+    say_words(lift::extend(&mut s, 3), &s);
+    say_words(lift::extend(&mut s, 2), &s);
+    say_words(lift::extend(&mut s, 4), &s);
     say_words(extend_front(&mut s, 28, 3), &s);
     say_list(sheet::factor_rows(&s, 1));
     say(b"\n");
     s[24] = 5;
     say_test(&s);
-    say_words(sheet::extend(&mut s, 3), &s);
+    say_words(lift::extend(&mut s, 3), &s);
+}
+
+// The same sheet, worked on by a list of calls: accepted, too few words lent, accepted, behind, beyond.
+fn job_calls() {
+    let f = [6u32, 6, 0, 0, 0, 0, 1, 0, 0];
+    let roots = [1u32, 6];
+    let mut s = [99u32; 30];
+    say_words(open::open(7, 2, 3, &f, &roots, &mut s), &s);
+    let lent = [30u32, 28, 29, 30, 30];
+    let goals = [2u32, 3, 3, 2, 4];
+    let mut answers = [9u32; 11];
+    say_words(calls::replay(&mut s, &lent, &goals, &mut answers), &answers);
+    say_list(&s);
+    say(b"\n");
+    // a call that lends more than there is; no room for the answers
+    let more = [31u32, 28, 29, 30, 30];
+    say_words(calls::replay(&mut s, &more, &goals, &mut answers), &answers);
+    let mut few = [9u32; 9];
+    say_words(calls::replay(&mut s, &lent, &goals, &mut few), &few);
 }
 
 // Y (Y − 1)² (Y − 3) over 5 at X = 0, four terms: a double root, a cofactor, and p barely above the degree.
 fn three_roots() {
-    let mut s = [
-        5u32,
-        4,
-        4,
-        1,
-        3,
-        10,
-        16,
-        36,
-        52,
-        64,
-        0,
-        1,
-        1,
-        2,
-        3,
-        1,
-        0,
+    let f = [
+        0u32,
         1,
         2,
         3,
@@ -266,40 +243,14 @@ fn three_roots() {
         2,
         2,
         1,
-        0,
-        0,
-        0,
-        0,
-        0,
-        0,
-        0,
-        1,
-        0,
-        0,
-        0,
-        3,
-        0,
-        0,
-        0,
-        2,
-        0,
-        0,
-        0,
-        2,
-        0,
-        0,
-        0,
-        2,
-        0,
-        0,
-        0,
-        0,
         0,
         0,
         0,
     ];
-    say_test(&s);
-    say_words(sheet::extend(&mut s, 4), &s);
+    let roots = [0u32, 1, 3];
+    let mut s = [9u32; 64];
+    say_words(open::open(5, 4, 4, &f, &roots, &mut s), &s);
+    say_words(lift::extend(&mut s, 4), &s);
     say_test(&s);
     // more terms than columns; a word of the cofactor changed
     s[3] = 5;
@@ -307,6 +258,51 @@ fn three_roots() {
     s[3] = 4;
     s[63] = 1;
     say_test(&s);
+}
+
+// Y^32 with one term passes, a degree bound of 33 or 0 doesn't.
+fn largest_degree() {
+    let mut f = [0u32; 33];
+    f[32] = 1;
+    let roots = [0u32];
+    let mut s = [9u32; 78];
+    say_words(open::open(7, 33, 1, &f, &roots, &mut s), &s);
+    say_words(open::open(7, 0, 1, &f, &roots, &mut s), &s);
+    say_words(open::open(7, 32, 1, &f, &roots, &mut s), &s);
+}
+
+// Y + X with 256 terms passes, 257 terms don't; its root is worked to the last term, and not beyond.
+fn most_terms() {
+    let mut f = [0u32; 512];
+    f[1] = 1;
+    f[256] = 1;
+    let roots = [0u32];
+    let mut s = [9u32; 781];
+    say_words(open::open(7, 1, 257, &f, &roots, &mut s), &s);
+    say_words(open::open(7, 1, 256, &f, &roots, &mut s), &s);
+    say_words(lift::extend(&mut s, 257), &s);
+    say_words(lift::extend(&mut s, 256), &s);
+}
+
+// What open refuses, Y² − 1 over 7 with two terms: rows 6 to 9, and two at once.
+fn open_refusals() {
+    let f = [6u32, 0, 0, 0, 1, 0];
+    let mut s = [9u32; 3];
+    let one = [1u32];
+    say_words(open::open(7, 2, 2, &f, &one, &mut s), &s);
+    let large = [1u32, 7];
+    say_words(open::open(7, 2, 2, &f, &large, &mut s), &s);
+    let falling = [6u32, 1];
+    say_words(open::open(7, 2, 2, &f, &falling, &mut s), &s);
+    let many = [1u32, 2, 6];
+    say_words(open::open(7, 2, 2, &f, &many, &mut s), &s);
+    let both = [1u32, 6];
+    say_words(open::open(7, 2, 2, &f, &both, &mut s), &s);
+    // not monic, with a root list that falls; a root too large comes before both
+    let double = [6u32, 0, 0, 0, 2, 0];
+    say_words(open::open(7, 2, 2, &double, &falling, &mut s), &s);
+    let worse = [6u32, 8];
+    say_words(open::open(7, 2, 2, &double, &worse, &mut s), &s);
 }
 
 fn main() {
@@ -329,5 +325,9 @@ fn main() {
     pair_examples();
     long_pair();
     job_sheet();
+    job_calls();
     three_roots();
+    largest_degree();
+    most_terms();
+    open_refusals();
 }

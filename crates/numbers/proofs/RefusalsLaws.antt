@@ -18,7 +18,7 @@ use Rattle.numbers.specs.declared.refusal.Verdict.the-variants.{Pass, Re
 use Rattle.numbers.proofs.WordsLaws.{none-large, below-append}
 use Rattle.numbers.proofs.DivisorLaws.{least-prime, prime-least}
 
-not-pass : {A : Type 0} (r : Refusal) → Refuse r ≡ Pass → A
+pub not-pass : {A : Type 0} (r : Refusal) → Refuse r ≡ Pass → A
 not-pass r e = absurd (let z : _≡_ {A = ℕ} 0 1 = cc in omega arith)
 
 pub none-judged : judge [] ≡ Pass
@@ -73,6 +73,17 @@ pass-parts (c ∷ cs) ds e =
 pub neither : (a b : Bool) → a || b ≡ false → (a ≡ false) × (b ≡ false)
 neither true b e = absurd (let z : true ≡ false = e in let w : _≡_ {A = ℕ} 0 1 = cc in omega arith)
 neither false b e = (refl, e)
+
+-- n is from low to high
+pub inside : (low high n : ℕ) → outside low high n ≡ false → (low ≤ n) × (n ≤ high)
+inside low high n e = let (a, b) = neither (ltb n low) (ltb high n) e in (ltb-false n low a, ltb-false high n b)
+
+-- exactly one answer and one content of the slice
+pub record One (P : Outcome ℕ → List ℕ → Type 0) : Type 0 where
+  pub answer : Outcome ℕ
+  pub left : List ℕ
+  pub there : P answer left
+  pub only : (a : Outcome ℕ) (new : List ℕ) → P a new → (a ≡ answer) × (new ≡ left)
 
 -- p is a modulus: what rows 1 and 2 let pass. (The kernels are proved for every p below 2^24.)
 pub record Modulus (p : ℕ) : Type 0 where

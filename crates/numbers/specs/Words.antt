@@ -7,11 +7,12 @@
 --   firstLarge p s       the position of the first word of s that is p or more, or the length of s
 --   AllBelow p s         every word of s is below p
 --   outside low high n   n is below low or above high
+--   lowWord n            what 32 bits keep of n
 --   tabulate n f         the words f 0, f 1, .., f (n − 1)
 --   over xs s            s with the words xs in place of its first ones
 --   part s a n           the n words of s from word a on
 -- Assumes nothing.
-use Prim.Native.Nat.{ℕ, zero, suc, _<_}
+use Prim.Native.Nat.{ℕ, zero, suc, _<_, _%_}
 use mathlib.Core.Bool.{Bool, true, false, _||_}
 use mathlib.Core.List.{List, [], _∷_, _++_}
 use lib.Dec.{leb, ltb}
@@ -45,6 +46,9 @@ AllBelow p s = (k : ℕ) → k < length s → word s k < p
 
 abbrev pub outside : ℕ → ℕ → ℕ → Bool
 outside low high n = ltb n low || ltb high n
+
+abbrev pub lowWord : ℕ → ℕ
+lowWord n = n % 4294967296
 
 unfoldable pub tabulate : ℕ → (ℕ → ℕ) → List ℕ
 tabulate zero f = []

@@ -22,7 +22,7 @@ use Rattle.numbers.specs.declared.refusal.Refusal.{Refusal}
 use Rattle.numbers.specs.declared.refusal.Verdict.{Verdict}
 use Rattle.numbers.specs.declared.refusal.Verdict.the-variants.{Pass, Refuse}
 use Rattle.numbers.proofs.WordsLaws.{length-over}
-use Rattle.numbers.proofs.RefusalsLaws.{pass-parts, pass-check, neither}
+use Rattle.numbers.proofs.RefusalsLaws.{pass-parts, pass-check, neither, inside}
 use Rattle.rows.specs.Rows.{table}
 use Rattle.rows.proofs.RowsLaws.{length-table, word-table, row-fits}
 use Rattle.pair.specs.Pair.{order, firstChecks, pairChecks, continueChecks, pairTest, Leaves, PairWords, PairDone}
@@ -76,9 +76,6 @@ pub record PairInput (p D N : ℕ) (f : List ℕ) (w room : ℕ) : Type 0 where
   pub first : First p D N f room
   pub low : 1 ≤ w
   pub high : w ≤ N
-
-inside : (low high n : ℕ) → outside low high n ≡ false → (low ≤ n) × (n ≤ high)
-inside low high n e = let (a, b) = neither (ltb n low) (ltb high n) e in (ltb-false n low a, ltb-false high n b)
 
 pub pair-pass : (p D N : ℕ) (f : List ℕ) (w room : ℕ) → judge (pairChecks p D N f w room) ≡ Pass → PairInput p D N f w room
 pair-pass p D N f w room e =

@@ -3,6 +3,7 @@
 --   Ready ..      what open needs of p, D, N, the polynomial, the roots and the powers
 --   built-good    with rows that are the factors to k terms the content is good
 --   solved-good   there is good content for every k from 1 to N
+--   line-top      (Y − c)^m is monic
 --   start-good    with one term factor i is (Y − c_i)^(m_i)
 -- Assumes nothing.
 use Prim.Native.Nat.{ℕ, zero, suc, _+_, _-_, _*_, _%_, _≤_, _<_}
@@ -134,7 +135,7 @@ module _ (p D N r : ℕ) (root power : ℕ → ℕ) (f : ℕ → ℕ → ℕ) (h
       (solution-is (h .prime) D N r f root power (h .splits) (h .width-low) (h .reduced) (h .top) k high)
 
 -- (Y − c)^m is monic
-line-top : (p c m : ℕ) → 1 < p → linePower p c m m ≡ 1
+pub line-top : (p c m : ℕ) → 1 < p → linePower p c m m ≡ 1
 unfolding linePower
 line-top p c zero two = refl
 line-top p c (suc m) two = rw (line-zero p c m (suc m) (omega arith), line-top p c m two) (ap (λ x. x % p) (let z : c * 0 + 1 ≡ 1 = omega arith in z) ∙ mod-eq-of-lt two)

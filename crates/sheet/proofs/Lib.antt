@@ -7,11 +7,6 @@ pub mod SheetsLaws
 pub mod CofactorsLaws
 pub mod UniqueLaws
 pub mod BuildLaws
-pub mod OpenLaws
-pub mod OpeningLaws
-pub mod ExtendingLaws
-pub mod TotalLaws
-pub mod Demand3Laws
 pub mod StagesLaws
 pub mod LineLaws
 pub mod LinkLaws
@@ -19,13 +14,4 @@ pub mod PlacesLaws
 pub mod ChainLaws
 pub mod SoundStagesLaws
 pub mod ReadingLaws
-pub mod LiftLinkLaws
-pub mod LinkPartLaws
-pub mod AnswersLaws
-pub mod LiftChainLaws
-pub mod ChainedLaws
-pub mod SoundChainLaws
-pub mod ChainStepLaws
-pub mod ChainLinkingLaws
-pub mod ListedLaws
-pub mod ChainCallLaws
+pub mod HoldsLaws

@@ -1,6 +1,7 @@
 -- The coefficients of (Y − c)^m, as the shift of Y^m to Y − c gives them.
 --   line-mod     (Y + x)^m looks at x modulo p only
---   line-words   what stands in the array after the shift
+--   root-words   what the shift of Y^m leaves
+--   front-words, line-words   .. at the front of an array
 -- Assumes nothing.
 use mathlib.Core.Path.{_≡_, refl, sym, ap, ap₂, _∙_}
 use mathlib.Core.List.{List, _++_}
@@ -10,11 +11,11 @@ use native.Mathlib.Numerals.{add-one}
 use native.Mathlib.Decide.{decLe}
 use native.Mathlib.Omega.{arith}
 use lib.ListN.{length, take, drop, set, length-set, List·getD-append}
-use lib.Seq.{getD-take, getD-set-same, getD-set-other, length-take-le}
+use lib.Seq.{ext-getD, getD-take, getD-set-same, getD-set-other, length-take-le}
 use Rattle.algebra.specs.Sums.{sumTo, sumTo-suc, sumTo-zeros}
 use Rattle.algebra.specs.Fp.{mod-mul-mod}
-use Rattle.numbers.specs.Words.{word, firstLarge, over, AllBelow}
-use Rattle.numbers.proofs.WordsLaws.{none-large, over-whole}
+use Rattle.numbers.specs.Words.{word, firstLarge, tabulate, over, AllBelow}
+use Rattle.numbers.proofs.WordsLaws.{none-large, length-tabulate, word-tabulate, over-whole}
 use Rattle.series.proofs.SeriesLaws.{word-below}
 use Rattle.rows.specs.Rows.{rowsOf, table, linePower, shifted}
 use Rattle.rows.proofs.RowsLaws.{zeros, rows-below, line-lt, length-table, word-table}
@@ -79,15 +80,34 @@ module _ (m : ℕ) (small : m ≤ 32) where
       let e : sumTo (m + 1) F ≡ linePower p c m j = ap (λ (k : ℕ). sumTo k F) (add-one m) ∙ sumTo-suc m F ∙ ap₂ _+_ z t ∙ zero-add _ in
       ap (λ (x : ℕ). x % p) e ∙ mod-eq-of-lt (line-lt p c m j two)
 
-  pub line-words : (p c : ℕ) (ws : List ℕ) → 2 ≤ p
-      → ws ≡ over (table (m + 1) 1 (shifted p (m + 1) ((p - c) % p) (rowsOf (take (m + 1) (unitAt m)) 1 (m + 1)))) (take (m + 1) zeros)
-      → (i : ℕ) → i < m → word (ws ++ drop (m + 1) zeros) i ≡ rootPower p c m i
-  line-words p c ws two e i l =
+  -- the words of Y^m at Y − c, as the shift leaves them
+  whole-line : (p c : ℕ) (line ws : List ℕ) → 2 ≤ p → length line ≡ m + 1
+      → ws ≡ over (table (m + 1) 1 (shifted p (m + 1) ((p - c) % p) (rowsOf (take (m + 1) (unitAt m)) 1 (m + 1)))) line → ws ≡ tabulate (m + 1) (rootPower p c m)
+  whole-line p c line ws two long e =
       let T = table (m + 1) 1 (shifted p (m + 1) ((p - c) % p) (rowsOf (take (m + 1) (unitAt m)) 1 (m + 1))) in
-      let long : length T ≡ m + 1 = length-table (m + 1) 1 _ ∙ (let q : (m + 1) * 1 ≡ m + 1 = omega arith in q) in
-      let whole : ws ≡ T = e ∙ over-whole T (take (m + 1) zeros) (long ∙ sym (length-take-le (m + 1) zeros (omega arith))) in
-      rw whole
-      (List·getD-append T (drop (m + 1) zeros) 0 i (omega arith)
-      ∙ ap (word T) (let q : i ≡ i * 1 + 0 = omega arith in q)
-      ∙ word-table (m + 1) 1 _ i 0 (omega arith) (omega arith)
-      ∙ shifted-unit p ((p - c) % p) i two ∙ line-mod p (p - c) m i)
+      let lt : length T ≡ m + 1 = length-table (m + 1) 1 _ ∙ (let q : (m + 1) * 1 ≡ m + 1 = omega arith in q) in
+      e ∙ over-whole T line (lt ∙ sym long)
+      ∙ ext-getD 0 T (tabulate (m + 1) (rootPower p c m)) (lt ∙ sym (length-tabulate (m + 1) (rootPower p c m))) (λ i l.
+      let u : i < m + 1 = omega arith in
+      ap (word T) (let q : i ≡ i * 1 + 0 = omega arith in q)
+      ∙ word-table (m + 1) 1 _ i 0 u (omega arith)
+      ∙ shifted-unit p ((p - c) % p) i two ∙ line-mod p (p - c) m i ∙ sym (word-tabulate (m + 1) (rootPower p c m) i u))
+
+  pub root-words : (n p c : ℕ) (line ws : List ℕ) → n ≡ m + 1 → 2 ≤ p → length line ≡ n
+      → ws ≡ over (table n 1 (shifted p n ((p - c) % p) (rowsOf (take n (unitAt m)) 1 n))) line → ws ≡ tabulate n (rootPower p c m)
+  root-words n p c line ws q two long e =
+      whole-line p c line ws two (long ∙ q) (e ∙ ap (λ (k : ℕ). over (table k 1 (shifted p k ((p - c) % p) (rowsOf (take k (unitAt m)) 1 k))) line) q)
+      ∙ ap (λ (k : ℕ). tabulate k (rootPower p c m)) (sym q)
+
+  -- written to the front of an array
+  pub front-words : (p c : ℕ) (ws : List ℕ) → ws ≡ tabulate (length (take (m + 1) zeros)) (rootPower p c (length (take (m + 1) zeros) - 1)) → ws ≡ tabulate (m + 1) (rootPower p c m)
+  front-words p c ws e =
+      let n : length (take (m + 1) zeros) ≡ m + 1 = length-take-le (m + 1) zeros (omega arith) in
+      e ∙ ap₂ (λ (k l : ℕ). tabulate k (rootPower p c l)) n (let q : length (take (m + 1) zeros) - 1 ≡ m = omega arith in q)
+
+  pub line-words : (p c : ℕ) (ws : List ℕ) → ws ≡ tabulate (length (take (m + 1) zeros)) (rootPower p c (length (take (m + 1) zeros) - 1))
+      → (i : ℕ) → i < m → word (ws ++ drop (m + 1) zeros) i ≡ rootPower p c m i
+  line-words p c ws e i l =
+      let T = tabulate (m + 1) (rootPower p c m) in
+      rw (front-words p c ws e)
+      (List·getD-append T (drop (m + 1) zeros) 0 i (omega (arith, length-tabulate (m + 1) (rootPower p c m))) ∙ word-tabulate (m + 1) (rootPower p c m) i (omega arith))

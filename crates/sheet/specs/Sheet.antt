@@ -123,57 +123,6 @@ pub record Given : Type 0 where
 abbrev pub given-polynomial : Given → ℕ → ℕ → ℕ
 given-polynomial g = rowsAt (g .rows) 0 (g .N)
 
--- the lists of r numbers, each 1 or more, whose sum is D
-unfoldable pub upwards : ℕ → (ℕ → List (List ℕ)) → List (List ℕ)
-upwards zero f = []
-upwards (suc n) f = upwards n f ++ f (suc n)
-
-unfoldable pub choices : ℕ → ℕ → List (List ℕ)
-choices zero zero = [] ∷ []
-choices zero (suc D) = []
-choices (suc r) D = upwards D (λ m. map (λ l. m ∷ l) (choices r (D - m)))
-
-unfoldable pub find : (List ℕ → Bool) → List (List ℕ) → Option (List ℕ)
-find test [] = none
-find test (l ∷ ls) = elim (test l) [ true ↦ some l | false ↦ find test ls ]
-
--- these powers of the listed roots give f at X = 0
-unfoldable pub splitsTest : Given → List ℕ → Bool
-splitsTest g powers = allTo (suc (g .D)) (λ j. eqb (split (g .p) (length (g .roots)) (word (g .roots)) (word powers) j) (given-polynomial g j zero))
-
-unfoldable pub powersOf : Given → Option (List ℕ)
-powersOf g = find (splitsTest g) (choices (length (g .roots)) (g .D))
-
-abbrev pub isNone : {A : Type 0} → Option A → Bool
-isNone none = true
-isNone (some a) = false
-
-abbrev pub orNil : Option (List ℕ) → List ℕ
-orNil none = []
-orNil (some l) = l
-
--- T, from what open is given
-unfoldable pub needed : Given → ℕ
-needed g = total (g .D) (g .N) (length (g .roots)) (word (orNil (powersOf g)))
-
--- `room` is the length of the output
-abbrev pub openChecks : Given → ℕ → List Check
-openChecks g room =
-    modulusChecks (g .p) ++ (
-    check 3 (outside 1 32 (g .D)) 0
-    ∷ check 4 (outside 1 256 (g .N)) 0
-    ∷ check 5 (not (eqb (length (g .rows)) ((g .D + 1) * g .N))) 0
-    ∷ check 6 (unreduced (g .p) (g .rows ++ g .roots)) (firstLarge (g .p) (g .rows ++ g .roots))
-    ∷ check 7 (not (allTo (g .N) (λ t. eqb (given-polynomial g (g .D) t) (unit t)))) 0
-    ∷ check 8 (outside 1 (g .D) (length (g .roots)) || not (allTo (length (g .roots) - 1) (λ i. ltb (word (g .roots) i) (word (g .roots) (suc i))))) 0
-    ∷ check 9 (isNone (powersOf g)) 0
-    ∷ check 10 (ltb room (needed g)) (needed g)
-    ∷ []
-    )
-
-unfoldable pub openVerdict : Given → ℕ → Verdict
-openVerdict g room = judge (openChecks g room)
-
 -- a sound sheet that holds what open was given, with k terms
 pub record Holds (g : Given) (k : ℕ) (s : List ℕ) : Type 0 where
   pub sound : Sound s
@@ -184,44 +133,6 @@ pub record Holds (g : Given) (k : ℕ) (s : List ℕ) : Type 0 where
   pub same-roots : (i : ℕ) → i < count s → root s i ≡ word (g .roots) i
   pub same-polynomial : (j : ℕ) → j ≤ degree s → (t : ℕ) → t < width s → polynomial s j t ≡ given-polynomial g j t
   pub same-terms : terms s ≡ k
-
-pub record OpenDone (g : Given) (old new : List ℕ) (T : ℕ) : Type 0 where
-  pub same-length : length new ≡ length old
-  pub holds : Holds g 1 new
-  pub fills : end new ≡ T
-  pub rest : drop T new ≡ drop T old
-
--- open: lent `old`, it answers `answer` and leaves `new`
-pub record Opened (g : Given) (old : List ℕ) (answer : Outcome ℕ) (new : List ℕ) : Type 0 where
-  pub answers : answer ≡ result (openVerdict g (length old)) (needed g)
-  pub leaves : Leaves (openVerdict g (length old)) (OpenDone g old new (needed g)) old new
-
-abbrev pub extendChecks : List ℕ → ℕ → List Check
-extendChecks s w =
-    check 13 (not (soundTest s)) 0
-    ∷ check 14 (outside 1 (width s) w) 0
-    ∷ check 15 (ltb w (terms s)) 0
-    ∷ []
-
-unfoldable pub extendVerdict : List ℕ → ℕ → Verdict
-extendVerdict s w = judge (extendChecks s w)
-
--- word i stands in columns k..w − 1 of the factors' or the cofactors' rows
-abbrev pub InColumns : List ℕ → ℕ → ℕ → Type 0
-InColumns s w i =
-    let first = factorsFrom (degree s) (width s) (count s) in
-    (first ≤ i) × (i < end s) × (terms s ≤ (i - first) % width s) × ((i - first) % width s < w)
-
-pub record ExtendDone (old : List ℕ) (w : ℕ) (new : List ℕ) : Type 0 where
-  pub same-length : length new ≡ length old
-  pub sound : Sound new
-  pub reached : terms new ≡ w
-  pub rest : (i : ℕ) → i ≢ 3 → ¬ InColumns old w i → word new i ≡ word old i
-
--- extend: lent `old`, it answers `answer` and leaves `new`
-pub record Extended (old : List ℕ) (w : ℕ) (answer : Outcome ℕ) (new : List ℕ) : Type 0 where
-  pub answers : answer ≡ result (extendVerdict old w) w
-  pub leaves : Leaves (extendVerdict old w) (ExtendDone old w new) old new
 
 -- Reading factor i: its root, its power, and where its rows stand (from, to).
 abbrev pub readChecks : List ℕ → ℕ → List Check

@@ -10,11 +10,11 @@ ghost use lib.ListN.{length};
 ghost use Rattle.numbers.specs.Words.{over};
 ghost use Rattle.numbers.specs.Refusals.{outcome, result, written};
 ghost use Rattle.sheet.specs.Layout.{count};
-ghost use Rattle.sheet.specs.Sheet.{Sound, soundTest, Given, Opened, Extended, extendVerdict, readVerdict, readFactor, factorOutcome, readPart};
+ghost use Rattle.sheet.specs.Sheet.{Sound, soundTest, readVerdict, readFactor, factorOutcome, readPart};
 ghost use Rattle.sheet.specs.Reading.{factorPart, timesVerdict, timesSize, timesWords};
 
-mod layout; // where the words stand
-mod lifting; // working a sheet on
+pub mod kernel; // powers of Y − c, for callers that have judged
+pub mod layout; // where the words stand
 mod soundness; // the test of a sheet
 
 // A factor's root at X = 0 and its power, which is its degree.
@@ -96,36 +96,4 @@ pub fn factor_times(sheet: &[u32], i: u32, e: u32, g: &[u32], out: &mut [u32]) -
     }
     let power = sheet[layout::ROOTS_FROM + 2 * (i as usize) + 1];
     rows::multiply(sheet[0], power - 1, e, sheet[2], part_of(sheet, i), g, out)
-}
-
-// Rows 13, 14 and 15.
-fn check_extend(sheet: &[u32], w: u32) -> Verdict
-    ensures { λ r. ⌜ r ≡ extendVerdict (now (sheet .entry)) w ⌝ }
-{
-    if !test(sheet) {
-        return refuse(13, 0);
-    }
-    if w < 1 {
-        return refuse(14, 0);
-    }
-    if sheet[2] < w {
-        return refuse(14, 0);
-    }
-    if w < sheet[3] {
-        return refuse(15, 0);
-    }
-    Verdict::Pass
-}
-
-// The sheet with w terms, from the terms there. The answer is w.
-pub fn extend(sheet: &mut [u32], w: u32) -> Answer
-    ensures { λ r. ⌜ Extended (now (sheet .entry)) w (outcome r) (now (sheet .exit)) ⌝ }
-{
-    if let Verdict::Refuse(r) = check_extend(sheet, w) {
-        return Answer::Refused(r);
-    }
-    let from = sheet[3] as usize;
-    lifting::lift_links(from, w as usize, sheet);
-    sheet[3] = w;
-    Answer::Done(w)
 }

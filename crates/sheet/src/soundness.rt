@@ -1,4 +1,5 @@
 // The test of a sheet, stage after stage: a stage reads only words whose place the stages before it have found to be there.
+use crate::kernel::root_power;
 use crate::layout;
 use numbers::judge::check_modulus;
 use numbers::judge::first_large;
@@ -208,16 +209,14 @@ fn words_fit(s: &[u32]) -> bool
     true
 }
 
-// Column 0 of the rows from word o on is that of the lower rows of (Y − c)^m, which is Y^m at Y − c.
+// Column 0 of the rows from word o on is that of the lower rows of (Y − c)^m.
 fn line_fits(p: u32, c: u32, s: &[u32], o: usize, n: usize, m: usize) -> bool
     requires { ⌜ (2 ≤ p) × (p < 16777216) × (c < p) × (m ≤ 32) × (1 ≤ n) × (n ≤ 256) × (o ≤ 100000) × (o + m * n ≤ length (now s)) ⌝ }
     ensures { λ b. ⌜ Decides b (LineFits p c (now (s .entry)) o n m) ⌝ }
 {
     let rows = m + 1;
-    let mut power = [0u32; 33];
-    power[m] = 1;
     let mut line = [0u32; 33];
-    rows::kernel::shift(p, (p - c) % p, &power[..rows], rows, 1, &mut line[..rows]);
+    root_power(p, c, &mut line[..rows]);
     let mut j = 0;
     while j < m {
         if s[o + j * n] != line[j] {

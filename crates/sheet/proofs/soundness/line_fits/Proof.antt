@@ -2,16 +2,14 @@
 -- Assumes nothing.
 use mathlib.Core.Path.{_≡_, sym, _∙_}
 use Prim.Native.Nat.{ℕ, _≤_, _<_, _-_, _+_, _*_}
-use native.Mathlib.Nat.{mod-lt}
 use native.Mathlib.Omega.{arith}
 use borrow.Author.Count.{below-more}
-use lib.ListN.{length-set}
 use lib.Seq.{length-take-le}
 use Rattle.numbers.specs.Words.{word}
 use Rattle.rows.proofs.RowsLaws.{row-fits, rows-small, zeros}
 use Rattle.sheet.specs.Factors.{rootPower}
 use Rattle.sheet.proofs.StagesLaws.{decides-yes, decides-no}
-use Rattle.sheet.proofs.LineLaws.{unit-long, unit-below, line-words}
+use Rattle.sheet.proofs.LineLaws.{line-words}
 use borrow.Author.Needs.{needs}
 use Rattle.sheet.proofs.soundness.line_fits.Statement.{statement}
 use Rattle.sheet.proofs.soundness.line_fits.Tie as tie
@@ -25,60 +23,31 @@ abbrev μ-loop : tie.MeasureT-loop
 add-rows : tie.Need-add-rows Inv-loop μ-loop
 add-rows c = search needs
 
-mul-power : tie.Need-mul-power Inv-loop μ-loop
-mul-power c = search needs
-
-array-write-power : tie.Need-array-write-power Inv-loop μ-loop
-array-write-power c = search needs
-
-sub-shift : tie.Need-sub-shift Inv-loop μ-loop
-sub-shift c = search needs
-
-rem-shift : tie.Need-rem-shift Inv-loop μ-loop
-rem-shift c = search needs
-
-array-share-prefix-power : tie.Need-array-share-prefix-power Inv-loop μ-loop
-array-share-prefix-power c = omega (arith, length-set zeros (c .before .args .m) 1)
-
-slice-aggregate-shift : tie.Need-slice-aggregate-shift Inv-loop μ-loop
-slice-aggregate-shift c = sym (unit-long (c .before .before .args .m) (omega arith))
-
 array-borrow-prefix-line : tie.Need-array-borrow-prefix-line Inv-loop μ-loop
 array-borrow-prefix-line c = omega arith
 
-slice-aggregate-shift-2 : tie.Need-slice-aggregate-shift-2 Inv-loop μ-loop
-slice-aggregate-shift-2 c = sym (length-take-le (c .before .before .before .args .m + 1) zeros (omega arith))
+slice-aggregate-root-power : tie.Need-slice-aggregate-root-power Inv-loop μ-loop
+slice-aggregate-root-power c = sym (length-take-le (c .before .before .args .m + 1) zeros (omega arith))
 
-shift-requires : tie.Need-shift-requires Inv-loop μ-loop
-shift-requires c κs =
-    let a = c .before .before .before .args in (
-      omega arith,
-      omega arith,
-      mod-lt (a .p - a .c) {m = a .p} (omega arith),
-      omega arith,
-      omega arith,
-      omega arith,
-      omega (arith, unit-long (a .m) (omega arith)),
-      omega (arith, length-take-le (a .m + 1) zeros (omega arith)),
-      unit-below (a .m) (omega arith) (a .p) (omega arith),
-    )
+root-power-requires : tie.Need-root-power-requires Inv-loop μ-loop
+root-power-requires c κs = (omega arith, omega arith, omega arith, omega (arith, length-take-le (c .before .before .args .m + 1) zeros (omega arith)), omega (arith, length-take-le (c .before .before .args .m + 1) zeros (omega arith)))
 
 loop-holds : tie.Need-loop-holds Inv-loop μ-loop
 loop-holds c =
-    let a = c .before .before .before .before .before .args in
-    (omega arith, line-words (a .m) (omega arith) (a .p) (a .c) _ (omega arith) (c .before .shift .ensures), λ k l. absurd (let z : ⊥ = omega arith in z))
+    let a = c .before .before .before .before .args in
+    (omega arith, line-words (a .m) (omega arith) (a .p) (a .c) _ (c .before .root-power .ensures), λ k l. absurd (let z : ⊥ = omega arith in z))
 
 mul-if1 : tie.Need-mul-if1 Inv-loop μ-loop
-mul-if1 c = omega (arith, row-fits (c .before .loop .j) (c .before .before .before .before .before .before .before .args .m) (c .before .before .before .before .before .before .before .args .n) (omega arith), rows-small (c .before .before .before .before .before .before .before .args .m) (c .before .before .before .before .before .before .before .args .n) (omega arith) (omega arith))
+mul-if1 c = omega (arith, row-fits (c .before .loop .j) (c .before .before .before .before .before .before .args .m) (c .before .before .before .before .before .before .args .n) (omega arith), rows-small (c .before .before .before .before .before .before .args .m) (c .before .before .before .before .before .before .args .n) (omega arith) (omega arith))
 
 add-if1 : tie.Need-add-if1 Inv-loop μ-loop
-add-if1 c = omega (arith, row-fits (c .before .loop .j) (c .before .before .before .before .before .before .before .args .m) (c .before .before .before .before .before .before .before .args .n) (omega arith), rows-small (c .before .before .before .before .before .before .before .args .m) (c .before .before .before .before .before .before .before .args .n) (omega arith) (omega arith))
+add-if1 c = omega (arith, row-fits (c .before .loop .j) (c .before .before .before .before .before .before .args .m) (c .before .before .before .before .before .before .args .n) (omega arith), rows-small (c .before .before .before .before .before .before .args .m) (c .before .before .before .before .before .before .args .n) (omega arith) (omega arith))
 
 mul-if1-2 : tie.Need-mul-if1-2 Inv-loop μ-loop
-mul-if1-2 c = omega (arith, row-fits (c .before .loop .j) (c .before .before .before .before .before .before .before .args .m) (c .before .before .before .before .before .before .before .args .n) (omega arith), rows-small (c .before .before .before .before .before .before .before .args .m) (c .before .before .before .before .before .before .before .args .n) (omega arith) (omega arith))
+mul-if1-2 c = omega (arith, row-fits (c .before .loop .j) (c .before .before .before .before .before .before .args .m) (c .before .before .before .before .before .before .args .n) (omega arith), rows-small (c .before .before .before .before .before .before .args .m) (c .before .before .before .before .before .before .args .n) (omega arith) (omega arith))
 
 shared-slice-read-if1 : tie.Need-shared-slice-read-if1 Inv-loop μ-loop
-shared-slice-read-if1 c = omega (arith, row-fits (c .before .before .loop .j) (c .before .before .before .before .before .before .before .before .args .m) (c .before .before .before .before .before .before .before .before .args .n) (omega arith))
+shared-slice-read-if1 c = omega (arith, row-fits (c .before .before .loop .j) (c .before .before .before .before .before .before .before .args .m) (c .before .before .before .before .before .before .before .args .n) (omega arith))
 
 mul-if1-3 : tie.Need-mul-if1-3 Inv-loop μ-loop
 mul-if1-3 c = search needs
@@ -97,7 +66,7 @@ loop-less c = search needs
 
 loop-again : tie.Need-loop-again Inv-loop μ-loop
 loop-again c =
-    let a = c .before .before .before .before .before .before .before .before .before .args in
+    let a = c .before .before .before .before .before .before .before .before .args in
     (omega arith, c .before .before .before .loop .inv .1, below-more (λ i. word (a .s .now) (a .o + i * a .n) ≡ rootPower (a .p) (a .c) (a .m) i) _ (c .before .before .before .loop .inv .2) (c .if1 .left ∙ c .before .before .before .loop .inv .1 (c .before .before .before .loop .j) (omega arith)))
 
 returns-2 : tie.Need-returns-2 Inv-loop μ-loop
@@ -110,15 +79,9 @@ line-fits-spec =
     Inv-loop
     μ-loop
     add-rows
-    mul-power
-    array-write-power
-    sub-shift
-    rem-shift
-    array-share-prefix-power
-    slice-aggregate-shift
     array-borrow-prefix-line
-    slice-aggregate-shift-2
-    shift-requires
+    slice-aggregate-root-power
+    root-power-requires
     loop-holds
     mul-if1
     add-if1

@@ -1,0 +1,2 @@
+pub mod Demand3Laws
+pub mod ReplayLaws

@@ -1,0 +1,14 @@
+pub mod FindingLaws
+pub mod OpenChecksLaws
+pub mod OpenLaws
+pub mod OpenSplitLaws
+pub mod OpenTotalLaws
+pub mod OpeningLaws
+pub mod PowersFoundLaws
+pub mod PowersLaws
+pub mod SizeLaws
+pub mod OpenCheckedLaws
+pub mod WritingLaws
+pub mod CofactorsWritingLaws
+pub mod SheetWritingLaws
+pub mod OpenDoneLaws

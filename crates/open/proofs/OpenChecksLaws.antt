@@ -1,0 +1,135 @@
+-- The checks of open: their parts, and what each part that passes says.
+--   open-rows              the checks of open are the three parts, one after the other
+--   unit-fails, unit-passes, rising-fails, rising-passes   what the two loops find
+--   Shape, shape-pass      what rows 1 to 6 let pass
+--   row-test               row D of the polynomial is the part of the rows that the loop looks at
+-- Assumes nothing.
+use Prim.Native.Nat.{ℕ, zero, suc, _+_, _-_, _*_, _≤_, _<_}
+use native.Mathlib.Nat.{eq-or-lt-of-le}
+use native.Mathlib.Omega.{arith}
+use mathlib.Core.Path.{_≡_, refl, sym, _∙_, ap, subst}
+use mathlib.Core.Logic.{_≢_, ⊎-elim}
+use mathlib.Core.Bool.{Bool, true, false, not, _||_}
+use mathlib.Core.List.{List, [], _∷_, _++_}
+use borrow.Author.Tests.{lt-ltb, le-ltb, ne-eqb, not-false, eqb-true, ltb-true}
+use lib.Dec.{ltb, eqb}
+use lib.ListN.{length, take, drop}
+use lib.Seq.{getD-take, getD-drop}
+use Rattle.numbers.specs.Words.{word, allTo, firstLarge, outside, lowWord, AllBelow}
+use Rattle.numbers.specs.Refusals.{check, judge, modulusChecks, unreduced}
+use Rattle.numbers.specs.declared.refusal.Verdict.the-variants.{Pass}
+use Rattle.numbers.proofs.WordsLaws.{below-append}
+use Rattle.numbers.proofs.TestsLaws.{eqs, allTo-at, allTo-false, at-allTo}
+use Rattle.numbers.proofs.RefusalsLaws.{Modulus, modulus-pass, pass-parts, pass-check, neither, reduced}
+use Rattle.rows.proofs.RowsLaws.{length-part, row-fits}
+use Rattle.pair.specs.Pair.{unit}
+use Rattle.pair.proofs.PartLaws.{allTo-ext}
+use Rattle.sheet.specs.Sheet.{Given, given-polynomial}
+use Rattle.open.specs.Open.{openVerdict}
+use Rattle.open.specs.Opening.{isUnit, rising, shapeOnly, shapeRows, listRows, splitRows}
+use Rattle.numbers.proofs.RefusalsLaws.{inside}
+
+pub open-rows : (g : Given) (room : ℕ) → openVerdict g room ≡ judge (shapeRows g ++ (listRows g ++ splitRows g room))
+unfolding openVerdict
+open-rows g room = refl
+
+pub open-rows-split : (g : Given) (room : ℕ) → openVerdict g room ≡ judge ((shapeRows g ++ listRows g) ++ splitRows g room)
+unfolding openVerdict
+open-rows-split g room = refl
+
+pub unit-fails : (s : List ℕ) (t : ℕ) → t < length s → word s t ≢ unit t → false ≡ isUnit s
+unit-fails s t l ne = sym (allTo-false (length s) (λ t. eqb (word s t) (unit t)) t l (ne-eqb (word s t) (unit t) ne))
+
+pub unit-passes : (s : List ℕ) (n : ℕ) → length s ≤ n → ((k : ℕ) → k < n → word s k ≡ unit k) → true ≡ isUnit s
+unit-passes s n l h = sym (eqs (length s) (word s) unit .1 (λ k g. h k (omega arith)))
+
+pub unit-later : (t : ℕ) → 1 ≤ t → unit t ≡ 0
+unit-later zero l = absurd (let z : ⊥ = omega arith in z)
+unit-later (suc t) l = refl
+
+pub rising-fails : (s : List ℕ) (i : ℕ) → 1 ≤ i → i < length s → word s i ≤ word s (i - 1) → false ≡ rising s
+rising-fails s zero l g h = absurd (let z : ⊥ = omega arith in z)
+rising-fails s (suc i) l g h =
+    sym (allTo-false (length s - 1) (λ i. ltb (word s i) (word s (suc i))) i (omega arith) (le-ltb (word s i) (word s (suc i)) (subst (λ n. word s (suc i) ≤ word s n) (let z : suc i - 1 ≡ i = omega arith in z) h)))
+
+pub rising-passes : (s : List ℕ) (i : ℕ) → length s ≤ i → ((k : ℕ) → suc k < i → word s k < word s (suc k)) → true ≡ rising s
+rising-passes s i l h = sym (at-allTo (length s - 1) (λ i. ltb (word s i) (word s (suc i))) (λ k g. lt-ltb (word s k) (word s (suc k)) (h k (omega arith))))
+
+-- what rows 1 to 6 let pass
+pub record Shape (g : Given) : Type 0 where
+  pub modulus : Modulus (g .p)
+  pub degree-low : 1 ≤ g .D
+  pub degree-high : g .D ≤ 32
+  pub width-low : 1 ≤ g .N
+  pub width-high : g .N ≤ 256
+  pub long : length (g .rows) ≡ (g .D + 1) * g .N
+  pub rows-below : AllBelow (g .p) (g .rows)
+  pub roots-below : AllBelow (g .p) (g .roots)
+
+pub shape-pass : (g : Given) → judge (shapeRows g) ≡ Pass → Shape g
+shape-pass g pass =
+    let m = pass-parts (modulusChecks (g .p)) (shapeOnly g) pass in
+    let c₃ = pass-check (check 3 (outside 1 32 (g .D)) 0) _ (m .1) in
+    let d = inside 1 32 (g .D) (c₃ .0) in
+    let c₄ = pass-check (check 4 (outside 1 256 (g .N)) 0) _ (c₃ .1) in
+    let n = inside 1 256 (g .N) (c₄ .0) in
+    let c₅ = pass-check (check 5 (not (eqb (length (g .rows)) ((g .D + 1) * g .N))) 0) _ (c₄ .1) in
+    let c₆ = pass-check (check 6 (unreduced (g .p) (g .rows ++ g .roots)) (lowWord (firstLarge (g .p) (g .rows ++ g .roots)))) _ (c₅ .1) in
+    let low = below-append (g .p) (g .rows) (g .roots) (reduced (g .p) (g .rows ++ g .roots) (c₆ .0)) in
+    record {
+      modulus = modulus-pass (g .p) (m .0);
+      degree-low = d .0;
+      degree-high = d .1;
+      width-low = n .0;
+      width-high = n .1;
+      long = eqb-true _ _ (not-false _ (c₅ .0));
+      rows-below = low .0;
+      roots-below = low .1;
+    }
+
+zero-plus : (n : ℕ) → 0 + n ≡ n
+zero-plus n = omega arith
+
+-- row D of N words
+module _ (s : List ℕ) (D N : ℕ) (long : length s ≡ (D + 1) * N) where
+  pub top-fits : D * N + N ≤ length s
+  top-fits = omega (arith, row-fits D (D + 1) N (omega arith))
+
+  pub top-long : length (take (D * N + N - D * N) (drop (D * N) s)) ≡ N
+  top-long = length-part s (D * N) N top-fits
+
+  pub row-test : isUnit (take (D * N + N - D * N) (drop (D * N) s)) ≡ allTo N (λ t. eqb (word s (0 + D * N + t)) (unit t))
+  row-test =
+      let x = take (D * N + N - D * N) (drop (D * N) s) in
+      ap (λ n. allTo n (λ t. eqb (word x t) (unit t))) top-long
+      ∙ allTo-ext N _ _ (λ t l. ap (λ w. eqb w (unit t)) (let z : t < D * N + N - D * N = omega arith in rw (getD-take, getD-drop, zero-plus (D * N))))
+
+pub one-first : (s : List ℕ) → word s 0 ≡ 1 → (k : ℕ) → k < 1 → word s k ≡ unit k
+one-first s e zero l = e
+one-first s e (suc k) l = absurd (let z : ⊥ = omega arith in z)
+
+pub rising-more : (s : List ℕ) (i : ℕ) → 1 ≤ i → ((k : ℕ) → suc k < i → word s k < word s (suc k)) → word s (i - 1) < word s i → (k : ℕ) → suc k < i + 1 → word s k < word s (suc k)
+rising-more s i low h last k l = ⊎-elim (λ (e : suc k ≡ i). subst (λ n. word s n < word s (suc k)) (let z : suc k - 1 ≡ k = omega arith in z) (subst (λ n. word s (n - 1) < word s n) (sym e) last)) (λ g. h k g) (eq-or-lt-of-le (let z : suc k ≤ i = omega arith in z))
+
+-- what rows 7 and 8 let pass
+pub record Listed (g : Given) : Type 0 where
+  pub shape : Shape g
+  pub top : (t : ℕ) → t < g .N → given-polynomial g (g .D) t ≡ unit t
+  pub count-low : 1 ≤ length (g .roots)
+  pub count-high : length (g .roots) ≤ g .D
+  pub up : (i : ℕ) → suc i < length (g .roots) → word (g .roots) i < word (g .roots) (suc i)
+
+pub listed-pass : (g : Given) → judge (shapeRows g ++ listRows g) ≡ Pass → Listed g
+listed-pass g pass =
+    let m = pass-parts (shapeRows g) (listRows g) pass in
+    let c₇ = pass-check (check 7 (not (allTo (g .N) (λ t. eqb (given-polynomial g (g .D) t) (unit t)))) 0) _ (m .1) in
+    let c₈ = pass-check (check 8 (outside 1 (g .D) (length (g .roots)) || not (rising (g .roots))) 0) [] (c₇ .1) in
+    let n = neither (outside 1 (g .D) (length (g .roots))) (not (rising (g .roots))) (c₈ .0) in
+    let r = inside 1 (g .D) (length (g .roots)) (n .0) in
+    record {
+      shape = shape-pass g (m .0);
+      top = eqs (g .N) _ _ .0 (not-false (allTo (g .N) (λ t. eqb (given-polynomial g (g .D) t) (unit t))) (c₇ .0));
+      count-low = r .0;
+      count-high = r .1;
+      up = λ i u. ltb-true _ _ (allTo-at (length (g .roots) - 1) (λ i. ltb (word (g .roots) i) (word (g .roots) (suc i))) (not-false (rising (g .roots)) (n .1)) i (omega arith));
+    }

@@ -1,0 +1,205 @@
+-- The powers of the listed roots: `powersOf` finds them exactly where there are some, and there is never more than one list of them.
+--   choices-are, choices-all   `choices r D` lists the lists of r numbers, each 1 or more, whose sum is D, and all of them
+--   powers-are      powersOf finds l exactly when l are powers of the listed roots that give f at X = 0
+--   powers-none     it finds none exactly when there are none
+--   sheet-splits    a sheet's powers are such powers
+--   needed-is       T, as open answers it, is where every sheet that holds what open was given ends
+-- Assumes nothing.
+use Prim.Native.Nat.{ℕ, zero, suc, _+_, _-_, _≤_, _<_}
+use native.Mathlib.Nat.{not-suc-le-zero, eq-or-lt-of-le, le-of-suc-le-suc}
+use native.Mathlib.Omega.{arith}
+use mathlib.Core.Path.{_≡_, refl, sym, _∙_, ap, ap₂, subst}
+use mathlib.Core.Logic.{_↔_, ⊎-elim}
+use mathlib.Core.Bool.{Bool, true, false}
+use mathlib.Core.Option.{Option, none, some}
+use mathlib.Core.List.{List, [], _∷_, _++_, map}
+use lib.ListN.{length}
+use lib.Seq.{ext-getD}
+use Rattle.algebra.specs.Sums.{sumTo, sumTo-zero, sumTo-front, sumTo-ext}
+use Rattle.algebra.specs.Fp.{Prime}
+use Rattle.numbers.specs.Words.{word, tabulate}
+use Rattle.numbers.proofs.WordsLaws.{true-false, length-tabulate, word-tabulate}
+use Rattle.numbers.proofs.TestsLaws.{eqs}
+use Rattle.sheet.specs.Factors.{split}
+use Rattle.sheet.specs.Layout.{modulus, degree, width, count, total, root, power, end}
+use Rattle.sheet.specs.Sheet.{Given, given-polynomial, Holds}
+use Rattle.open.specs.Open.{upwards, choices, find, splitsTest, powersOf, orNil, needed}
+use Rattle.sheet.proofs.SoundTestLaws.{upto, upto-back}
+use Rattle.sheet.proofs.FactorsLaws.{split-ext}
+use Rattle.sheet.proofs.ExistsLaws.{Splits, splits-unique}
+use Rattle.sheet.proofs.ContentLaws.{total-ext}
+
+-- of every list in a list
+abbrev Every : (List ℕ → Type 0) → List (List ℕ) → Type 0
+Every P [] = Unit {0}
+Every P (l ∷ ls) = P l × Every P ls
+
+every-append : (P : List ℕ → Type 0) (ls ms : List (List ℕ)) → Every P (ls ++ ms) ↔ (Every P ls × Every P ms)
+every-append P [] ms = (λ h. (tt, h), λ h. h .1)
+every-append P (l ∷ ls) ms =
+    let rec = every-append P ls ms in
+    (λ h. let z = rec .0 (h .1) in ((h .0, z .0), z .1), λ h. (h .0 .0, rec .1 (h .0 .1, h .1)))
+
+every-map : (P : List ℕ → Type 0) (f : List ℕ → List ℕ) (ls : List (List ℕ)) → Every P (map f ls) ↔ Every (λ l. P (f l)) ls
+every-map P f [] = (λ h. tt, λ h. tt)
+every-map P f (l ∷ ls) = let rec = every-map P f ls in (λ h. (h .0, rec .0 (h .1)), λ h. (h .0, rec .1 (h .1)))
+
+every-weaken : (P Q : List ℕ → Type 0) (ls : List (List ℕ)) → ((l : List ℕ) → P l → Q l) → Every P ls → Every Q ls
+every-weaken P Q [] f h = tt
+every-weaken P Q (l ∷ ls) f h = (f l (h .0), every-weaken P Q ls f (h .1))
+
+every-up : (P : List ℕ → Type 0) (n : ℕ) (f : ℕ → List (List ℕ)) → ((m : ℕ) → 1 ≤ m → m ≤ n → Every P (f m)) → Every P (upwards n f)
+unfolding upwards
+every-up P zero f h = tt
+every-up P (suc n) f h = every-append P (upwards n f) (f (suc n)) .1 (every-up P n f (λ m a b. h m a (omega arith)), h (suc n) (omega arith) (omega arith))
+
+every-at : (P : List ℕ → Type 0) (n : ℕ) (f : ℕ → List (List ℕ)) → Every P (upwards n f) → (m : ℕ) → 1 ≤ m → m ≤ n → Every P (f m)
+unfolding upwards
+every-at P zero f h m a b = absurd (let z : ⊥ = omega arith in z)
+every-at P (suc n) f h m a b =
+    let z = every-append P (upwards n f) (f (suc n)) .0 h in
+    ⊎-elim (λ (e : m ≡ suc n). subst (λ x. Every P (f x)) (sym e) (z .1)) (λ l. every-at P n f (z .0) m a (le-of-suc-le-suc l)) (eq-or-lt-of-le b)
+
+-- r numbers, each 1 or more, with the sum D
+pub record Powers (r D : ℕ) (l : List ℕ) : Type 0 where
+  pub count : length l ≡ r
+  pub low : (i : ℕ) → i < r → 1 ≤ word l i
+  pub sum : sumTo r (word l) ≡ D
+
+powers-cons : (r D m : ℕ) (l : List ℕ) → 1 ≤ m → m ≤ D → Powers r (D - m) l → Powers (suc r) D (m ∷ l)
+powers-cons r D m l a b h = record { count = ap suc (h .count); low = low; sum = sumTo-front r (word (m ∷ l)) ∙ (let z = h .sum in let y : m + sumTo r (word l) ≡ D = omega arith in y) }
+  where
+    low : (i : ℕ) → i < suc r → 1 ≤ word (m ∷ l) i
+    low zero g = a
+    low (suc i) g = h .low i (omega arith)
+
+pub choices-are : (r D : ℕ) → Every (Powers r D) (choices r D)
+unfolding choices
+choices-are zero zero = (record { count = refl; low = λ i l. absurd (not-suc-le-zero l); sum = sumTo-zero _ }, tt)
+choices-are zero (suc D) = tt
+choices-are (suc r) D =
+    every-up (Powers (suc r) D) D (λ m. map (λ l. m ∷ l) (choices r (D - m))) (λ m a b.
+    every-map (Powers (suc r) D) (λ l. m ∷ l) (choices r (D - m)) .1 (every-weaken (Powers r (D - m)) (λ l. Powers (suc r) D (m ∷ l)) (choices r (D - m)) (λ l. powers-cons r D m l a b) (choices-are r (D - m))))
+
+pub choices-all : (P : List ℕ → Type 0) (r D : ℕ) → Every P (choices r D) → (l : List ℕ) → Powers r D l → P l
+unfolding choices
+choices-all P zero D e [] h = go D e (sym (sumTo-zero _) ∙ h .sum)
+  where
+    go : (D : ℕ) → Every P (choices zero D) → zero ≡ D → P []
+    go zero e z = e .0
+    go (suc D) e z = absurd (let y : ⊥ = omega arith in y)
+choices-all P zero D e (m ∷ l) h = absurd (let z = h .count in let y : ⊥ = omega arith in y)
+choices-all P (suc r) D e [] h = absurd (let z = h .count in let y : ⊥ = omega arith in y)
+choices-all P (suc r) D e (m ∷ l) h =
+    let s : m + sumTo r (word l) ≡ D = sym (sumTo-front r (word (m ∷ l))) ∙ h .sum in
+    let a : 1 ≤ m = h .low zero (omega arith) in
+    choices-all (λ l. P (m ∷ l)) r (D - m) (every-map P (λ l. m ∷ l) (choices r (D - m)) .0 (every-at P D (λ m. map (λ l. m ∷ l) (choices r (D - m))) e m a (omega arith))) l
+    (record { count = let z = h .count in omega arith; low = λ i g. h .low (suc i) (omega arith); sum = omega arith })
+
+find-some : (P : List ℕ → Type 0) (test : List ℕ → Bool) (ls : List (List ℕ)) (l : List ℕ) → Every P ls → find test ls ≡ some l → P l × (test l ≡ true)
+unfolding find
+find-some P test [] l h e = absurd (let z : _≡_ {A = ℕ} 0 1 = cc in let y : ⊥ = omega arith in y)
+find-some P test (x ∷ ls) l h e = go (find-some P test ls l (h .1)) (test x) refl e
+  where
+    go : (find test ls ≡ some l → P l × (test l ≡ true)) → (b : Bool) → test x ≡ b → (elim b [ true ↦ some x | false ↦ find test ls ]) ≡ some l → P l × (test l ≡ true)
+    go rec true q e = let z : x ≡ l = cc in subst (λ y. P y × (test y ≡ true)) z (h .0, q)
+    go rec false q e = rec e
+
+find-none : (test : List ℕ → Bool) (ls : List (List ℕ)) → find test ls ≡ none → Every (λ l. test l ≡ false) ls
+unfolding find
+find-none test [] e = tt
+find-none test (x ∷ ls) e = go (find-none test ls) (test x) refl e
+  where
+    go : (find test ls ≡ none → Every (λ l. test l ≡ false) ls) → (b : Bool) → test x ≡ b → _≡_ {A = Option (List ℕ)} (elim b [ true ↦ some x | false ↦ find test ls ]) none → (test x ≡ false) × Every (λ l. test l ≡ false) ls
+    go rec true q e = absurd (let z : _≡_ {A = ℕ} 0 1 = cc in let y : ⊥ = omega arith in y)
+    go rec false q e = (q, rec e)
+
+abbrev pub Rising : Given → Type 0
+Rising g = (i : ℕ) → suc i < length (g .roots) → word (g .roots) i < word (g .roots) (suc i)
+
+abbrev pub Reduced : Given → Type 0
+Reduced g = (i : ℕ) → i < length (g .roots) → word (g .roots) i < g .p
+
+-- powers of the listed roots that give f at X = 0
+abbrev pub GivenSplits : Given → (ℕ → ℕ) → Type 0
+GivenSplits g power = Splits (g .p) (g .D) (length (g .roots)) (given-polynomial g) (word (g .roots)) power
+
+module _ (g : Given) where
+  splits-test : (l : List ℕ) → (splitsTest g l ≡ true) ↔ ((j : ℕ) → j ≤ g .D → split (g .p) (length (g .roots)) (word (g .roots)) (word l) j ≡ given-polynomial g j zero)
+  unfolding splitsTest
+  splits-test l = (λ e. upto (eqs (suc (g .D)) _ _ .0 e), λ h. eqs (suc (g .D)) _ _ .1 (upto-back h))
+
+  found : (l : List ℕ) → powersOf g ≡ some l → Powers (length (g .roots)) (g .D) l × (splitsTest g l ≡ true)
+  unfolding powersOf
+  found l = find-some (Powers (length (g .roots)) (g .D)) (splitsTest g) (choices (length (g .roots)) (g .D)) l (choices-are (length (g .roots)) (g .D))
+
+  none-found : powersOf g ≡ none → (l : List ℕ) → length l ≡ length (g .roots) → GivenSplits g (word l) → ⊥
+  unfolding powersOf
+  none-found e l n h =
+      true-false (sym (splits-test l .1 (h .splits))
+      ∙ choices-all (λ l. splitsTest g l ≡ false) (length (g .roots)) (g .D) (find-none (splitsTest g) (choices (length (g .roots)) (g .D)) e) l (record { count = n; low = h .powers; sum = h .degree }))
+
+  found-splits : (l : List ℕ) → Rising g → Reduced g → powersOf g ≡ some l → GivenSplits g (word l)
+  found-splits l up low e = let z = found l e in record { rising = up; reduced = low; powers = z .0 .low; degree = z .0 .sum; splits = splits-test l .0 (z .1) }
+
+  module _ (prime : Prime (g .p)) (up : Rising g) (low : Reduced g) where
+    pub powers-are : (l : List ℕ) → (powersOf g ≡ some l) ↔ ((length l ≡ length (g .roots)) × GivenSplits g (word l))
+    powers-are l = (λ e. (found l e .0 .count, found-splits l up low e), λ h. go h (powersOf g) refl)
+      where
+        go : (length l ≡ length (g .roots)) × GivenSplits g (word l) → (o : Option (List ℕ)) → powersOf g ≡ o → powersOf g ≡ some l
+        go h none q = absurd (none-found q l (h .0) (h .1))
+        go h (some m) q =
+            let u = splits-unique prime (g .D) _ _ (given-polynomial g) (word (g .roots)) (word (g .roots)) (word m) (word l) (found-splits m up low q) (h .1) in
+            let n = found m q .0 .count in
+            q ∙ ap (λ (x : List ℕ). some x) (ext-getD 0 m l (n ∙ sym (h .0)) (λ i v. u .1 i (omega arith) .1))
+
+    pub powers-none : (powersOf g ≡ none) ↔ ((l : List ℕ) → length l ≡ length (g .roots) → GivenSplits g (word l) → ⊥)
+    powers-none = (none-found, λ h. go h (powersOf g) refl)
+      where
+        go : ((l : List ℕ) → length l ≡ length (g .roots) → GivenSplits g (word l) → ⊥) → (o : Option (List ℕ)) → powersOf g ≡ o → powersOf g ≡ none
+        go h none q = q
+        go h (some m) q = absurd (h m (found m q .0 .count) (found-splits m up low q))
+
+module _ (g : Given) (k : ℕ) (s : List ℕ) (h : Holds g k s) where
+  abbrev r : ℕ
+  r = length (g .roots)
+
+  pub sheet-splits : GivenSplits g (power s)
+  sheet-splits =
+      let er = h .same-count in
+      let eD = h .same-degree in
+      let F = h .sound .factors in
+      record {
+        rising = λ i l. let a = h .same-roots i (omega arith) in let b = h .same-roots (suc i) (omega arith) in let c = F .rising i (omega arith) in omega arith;
+        reduced = λ i l. let a = h .same-roots i (omega arith) in let c = F .reduced i (omega arith) in let m = h .same-modulus in omega arith;
+        powers = λ i l. F .powers i (omega arith);
+        degree = ap (λ x. sumTo x (power s)) (sym er) ∙ F .degree ∙ eD;
+        splits = λ j l.
+            ap₂ (λ p r. split p r (word (g .roots)) (power s) j) (sym (h .same-modulus)) (sym er)
+            ∙ split-ext (modulus s) (count s) (word (g .roots)) (root s) (power s) (power s) (λ i v. sym (h .same-roots i v)) (λ i v. refl) j
+            ∙ F .splits j (omega arith) ∙ h .same-polynomial j (omega arith) zero (let a = h .sound .terms-low in let b = h .sound .terms-high in omega arith);
+      }
+
+  -- the powers found are the sheet's
+  found-power : (i : ℕ) → i < r → word (orNil (powersOf g)) i ≡ power s i
+  found-power i l =
+      let ps = tabulate r (power s) in
+      let w = word-tabulate r (power s) in
+      let S = sheet-splits in
+      let e : powersOf g ≡ some ps = powers-are g (subst Prime (h .same-modulus) (h .sound .prime)) (S .rising) (S .reduced) ps .1 (
+        length-tabulate r (power s),
+        record {
+          rising = S .rising;
+          reduced = S .reduced;
+          powers = λ i l. let a = w i l in let b = S .powers i l in omega arith;
+          degree = sumTo-ext r w ∙ S .degree;
+          splits = λ j l. split-ext (g .p) r (word (g .roots)) (word (g .roots)) (word ps) (power s) (λ i v. refl) w j ∙ S .splits j l;
+        },
+      ) in
+      ap (λ o. word (orNil o) i) e ∙ w i l
+
+  pub needed-is : needed g ≡ end s
+  unfolding needed
+  needed-is =
+      total-ext (g .D) (g .N) r (word (orNil (powersOf g))) (power s) found-power
+      ∙ ap₂ (λ D N. total D N r (power s)) (sym (h .same-degree)) (sym (h .same-width)) ∙ ap (λ r. total (degree s) (width s) r (power s)) (sym (h .same-count))

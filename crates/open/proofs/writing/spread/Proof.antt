@@ -1,0 +1,99 @@
+-- `open::writing::spread` meets its contract. The loop's invariant: the rows before j are written.
+-- Assumes nothing.
+use mathlib.Core.Path.{ap, _∙_}
+use Prim.Native.Nat.{ℕ, _≤_, _-_, _*_}
+use native.Mathlib.Omega.{arith}
+use lib.ListN.{length}
+use Rattle.numbers.specs.Words.{word, tabulate}
+use Rattle.numbers.proofs.WordsLaws.{Writing, writing-none, over-whole}
+use Rattle.rows.specs.Rows.{table}
+use Rattle.rows.proofs.RowsLaws.{row-fits, rows-small, length-part, length-table, writing-row, writing-rows}
+use Rattle.pair.specs.Lifting.{firstOnly}
+use Rattle.sheet.specs.Factors.{flat}
+use Rattle.open.proofs.WritingLaws.{flat-row}
+use borrow.Author.Needs.{needs}
+use Rattle.open.proofs.writing.spread.Statement.{statement}
+use Rattle.open.proofs.writing.spread.Tie as tie
+
+abbrev Inv-loop : tie.InvT-loop
+Inv-loop column n out₀ j₀ out j = (j ≤ length column) × Writing (table j n (flat (word column))) out₀ out
+
+abbrev μ-loop : tie.MeasureT-loop
+μ-loop column n out₀ j₀ out j = length column - j
+
+loop-holds : tie.Need-loop-holds Inv-loop μ-loop
+unfolding table
+loop-holds c = (omega arith, writing-none _)
+
+mul-a : tie.Need-mul-a Inv-loop μ-loop
+mul-a c = omega (arith, row-fits (c .before .loop .j) (length (c .before .before .before .before .args .column .now)) (c .before .before .before .before .args .n) (omega arith), rows-small (length (c .before .before .before .before .args .column .now)) (c .before .before .before .before .args .n) (omega arith) (omega arith))
+
+add-e : tie.Need-add-e Inv-loop μ-loop
+add-e c = omega (arith, row-fits (c .before .loop .j) (length (c .before .before .before .before .args .column .now)) (c .before .before .before .before .args .n) (omega arith), rows-small (length (c .before .before .before .before .args .column .now)) (c .before .before .before .before .args .n) (omega arith) (omega arith))
+
+mul-lead : tie.Need-mul-lead Inv-loop μ-loop
+mul-lead c = search needs
+
+shared-slice-read-lead : tie.Need-shared-slice-read-lead Inv-loop μ-loop
+shared-slice-read-lead c = search needs
+
+mul-lead-2 : tie.Need-mul-lead-2 Inv-loop μ-loop
+mul-lead-2 c = omega (arith, row-fits (c .before .before .loop .j) (length (c .before .before .before .before .before .args .column .now)) (c .before .before .before .before .before .args .n) (omega arith), rows-small (length (c .before .before .before .before .before .args .column .now)) (c .before .before .before .before .before .args .n) (omega arith) (omega arith))
+
+sub-lead : tie.Need-sub-lead Inv-loop μ-loop
+sub-lead c = omega (arith, row-fits (c .before .before .loop .j) (length (c .before .before .before .before .before .args .column .now)) (c .before .before .before .before .before .args .n) (omega arith), rows-small (length (c .before .before .before .before .before .args .column .now)) (c .before .before .before .before .before .args .n) (omega arith) (omega arith))
+
+part-lead-start : tie.Need-part-lead-start Inv-loop μ-loop
+part-lead-start c = omega (arith, row-fits (c .before .before .loop .j) (length (c .before .before .before .before .before .args .column .now)) (c .before .before .before .before .before .args .n) (omega arith), rows-small (length (c .before .before .before .before .before .args .column .now)) (c .before .before .before .before .before .args .n) (omega arith) (omega arith))
+
+part-lead-end : tie.Need-part-lead-end Inv-loop μ-loop
+part-lead-end c = omega (arith, row-fits (c .before .before .loop .j) (length (c .before .before .before .before .before .args .column .now)) (c .before .before .before .before .before .args .n) (omega arith), rows-small (length (c .before .before .before .before .before .args .column .now)) (c .before .before .before .before .before .args .n) (omega arith) (omega arith))
+
+lead-requires : tie.Need-lead-requires Inv-loop μ-loop
+lead-requires c κs =
+    let a = c .before .before .before .before .before .before .args in
+    let l = row-fits (c .before .before .before .loop .j) (length (a .column .now)) (a .n) (omega arith) in
+    omega (arith, length-part (c .before .before .before .loop .out) (c .before .before .before .loop .j * a .n) (a .n) (omega arith))
+
+add-j : tie.Need-add-j Inv-loop μ-loop
+add-j c = search needs
+
+loop-less : tie.Need-loop-less Inv-loop μ-loop
+loop-less c = search needs
+
+loop-again : tie.Need-loop-again Inv-loop μ-loop
+loop-again c =
+    let a = c .before .before .before .before .before .before .before .before .before .args in
+    let l = row-fits (c .before .before .before .before .before .before .loop .j) (length (a .column .now)) (a .n) (omega arith) in
+    let q = c .before .before .lead .ensures ∙ ap (λ (k : ℕ). tabulate k (firstOnly (word (a .column .now) (c .before .before .before .before .before .before .loop .j)))) (length-part (c .before .before .before .before .before .before .loop .out) (c .before .before .before .before .before .before .loop .j * a .n) (a .n) (omega arith)) ∙ flat-row (a .n) (word (a .column .now)) (c .before .before .before .before .before .before .loop .j) in
+    (omega arith, writing-row _ _ (flat (word (a .column .now))) _ _ _ (c .before .before .before .before .before .before .loop .inv .1) q (omega arith))
+
+same-length : tie.Need-same-length Inv-loop μ-loop
+same-length c = search needs
+
+returns : tie.Need-returns Inv-loop μ-loop
+returns c =
+    let a = c .before .before .before .before .args in
+    writing-rows _ _ _ _ _ _ (c .before .loop .inv .1) (omega arith) ∙ over-whole (table (length (a .column .now)) (a .n) (flat (word (a .column .now)))) (a .out .now) (omega (arith, length-table (length (a .column .now)) (a .n) (flat (word (a .column .now)))))
+
+pub spread-spec : {M : Type 1} → statement M
+spread-spec =
+    tie.close
+    (tie.spec
+    Inv-loop
+    μ-loop
+    loop-holds
+    mul-a
+    add-e
+    mul-lead
+    shared-slice-read-lead
+    mul-lead-2
+    sub-lead
+    part-lead-start
+    part-lead-end
+    lead-requires
+    add-j
+    loop-less
+    loop-again
+    same-length
+    returns)

@@ -1,0 +1,4 @@
+pub mod Open
+pub mod Opening
+pub mod Powers
+pub mod Writing

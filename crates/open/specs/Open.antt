@@ -1,0 +1,82 @@
+-- What open answers and leaves.
+--   powersOf g         powers, all 1 or more, of the listed roots that give f at X = 0, where there are any
+--   needed g           T
+--   openChecks         the checks
+--   Opened             open's answer and the words at exit
+-- Assumes nothing.
+use Prim.Native.Nat.{ℕ, zero, suc, _+_, _-_, _*_}
+use mathlib.Core.Path.{_≡_}
+use mathlib.Core.Bool.{Bool, true, false, not, _||_}
+use mathlib.Core.Option.{Option, none, some}
+use mathlib.Core.List.{List, [], _∷_, _++_, map}
+use lib.Dec.{ltb, eqb}
+use lib.ListN.{length, drop}
+use Rattle.numbers.specs.Words.{word, allTo, firstLarge, outside, lowWord}
+use Rattle.numbers.specs.Refusals.{Check, check, judge, Outcome, result, modulusChecks, unreduced}
+use Rattle.numbers.specs.declared.refusal.Verdict.{Verdict}
+use Rattle.pair.specs.Pair.{unit, Leaves}
+use Rattle.sheet.specs.Factors.{split}
+use Rattle.sheet.specs.Layout.{total, end}
+use Rattle.sheet.specs.Sheet.{Given, given-polynomial, Holds}
+
+-- the lists of r numbers, each 1 or more, whose sum is D
+unfoldable pub upwards : ℕ → (ℕ → List (List ℕ)) → List (List ℕ)
+upwards zero f = []
+upwards (suc n) f = upwards n f ++ f (suc n)
+
+unfoldable pub choices : ℕ → ℕ → List (List ℕ)
+choices zero zero = [] ∷ []
+choices zero (suc D) = []
+choices (suc r) D = upwards D (λ m. map (λ l. m ∷ l) (choices r (D - m)))
+
+unfoldable pub find : (List ℕ → Bool) → List (List ℕ) → Option (List ℕ)
+find test [] = none
+find test (l ∷ ls) = elim (test l) [ true ↦ some l | false ↦ find test ls ]
+
+-- these powers of the listed roots give f at X = 0
+unfoldable pub splitsTest : Given → List ℕ → Bool
+splitsTest g powers = allTo (suc (g .D)) (λ j. eqb (split (g .p) (length (g .roots)) (word (g .roots)) (word powers) j) (given-polynomial g j zero))
+
+unfoldable pub powersOf : Given → Option (List ℕ)
+powersOf g = find (splitsTest g) (choices (length (g .roots)) (g .D))
+
+abbrev pub isNone : {A : Type 0} → Option A → Bool
+isNone none = true
+isNone (some a) = false
+
+abbrev pub orNil : Option (List ℕ) → List ℕ
+orNil none = []
+orNil (some l) = l
+
+-- T, from what open is given
+unfoldable pub needed : Given → ℕ
+needed g = total (g .D) (g .N) (length (g .roots)) (word (orNil (powersOf g)))
+
+-- `room` is the length of the output
+abbrev pub openChecks : Given → ℕ → List Check
+openChecks g room =
+    modulusChecks (g .p) ++ (
+    check 3 (outside 1 32 (g .D)) 0
+    ∷ check 4 (outside 1 256 (g .N)) 0
+    ∷ check 5 (not (eqb (length (g .rows)) ((g .D + 1) * g .N))) 0
+    ∷ check 6 (unreduced (g .p) (g .rows ++ g .roots)) (lowWord (firstLarge (g .p) (g .rows ++ g .roots)))
+    ∷ check 7 (not (allTo (g .N) (λ t. eqb (given-polynomial g (g .D) t) (unit t)))) 0
+    ∷ check 8 (outside 1 (g .D) (length (g .roots)) || not (allTo (length (g .roots) - 1) (λ i. ltb (word (g .roots) i) (word (g .roots) (suc i))))) 0
+    ∷ check 9 (isNone (powersOf g)) 0
+    ∷ check 10 (ltb room (needed g)) (needed g)
+    ∷ []
+    )
+
+unfoldable pub openVerdict : Given → ℕ → Verdict
+openVerdict g room = judge (openChecks g room)
+
+pub record OpenDone (g : Given) (old new : List ℕ) (T : ℕ) : Type 0 where
+  pub same-length : length new ≡ length old
+  pub holds : Holds g 1 new
+  pub fills : end new ≡ T
+  pub rest : drop T new ≡ drop T old
+
+-- open: lent `old`, it answers `answer` and leaves `new`
+pub record Opened (g : Given) (old : List ℕ) (answer : Outcome ℕ) (new : List ℕ) : Type 0 where
+  pub answers : answer ≡ result (openVerdict g (length old)) (needed g)
+  pub leaves : Leaves (openVerdict g (length old)) (OpenDone g old new (needed g)) old new
