@@ -123,9 +123,9 @@ fn times(p: u32, c: u32, e: &[u32], out: &mut [u32])
         (λ j. mul p (flat (rootPower p c (length (now (out .entry)) - length (now (e .entry))))) (flat (word (now (e .entry)))) j 0) ⌝ }
 {
     let rows = out.len() - e.len() + 1;
-    let mut line = [0u32; 33];
-    root_power(p, c, &mut line[..rows]);
-    rows::kernel::multiply(p, &line[..rows], rows, e, e.len(), 1, out);
+    let mut power = [0u32; 33];
+    root_power(p, c, &mut power[..rows]);
+    rows::kernel::multiply(p, &power[..rows], rows, e, e.len(), 1, out);
 }
 
 // The same in place: the polynomial in the first words of e grows to fill it.

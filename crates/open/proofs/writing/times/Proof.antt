@@ -18,8 +18,8 @@ sub-rows c = search needs
 add-rows : tie.Need-add-rows
 add-rows c = search needs
 
-array-borrow-prefix-line : tie.Need-array-borrow-prefix-line
-array-borrow-prefix-line c = omega arith
+array-borrow-prefix-power : tie.Need-array-borrow-prefix-power
+array-borrow-prefix-power c = omega arith
 
 slice-aggregate-root-power : tie.Need-slice-aggregate-root-power
 slice-aggregate-root-power c = sym (length-take-le (length (c .before .before .before .args .out .now) - length (c .before .before .before .args .e .now) + 1) zeros (omega arith))
@@ -29,8 +29,8 @@ root-power-requires c κs =
     let l = length-take-le (length (c .before .before .before .args .out .now) - length (c .before .before .before .args .e .now) + 1) zeros (omega arith) in
     (omega arith, omega arith, omega arith, omega arith, omega arith)
 
-array-share-prefix-line : tie.Need-array-share-prefix-line
-array-share-prefix-line c =
+array-share-prefix-power : tie.Need-array-share-prefix-power
+array-share-prefix-power c =
     let m : ℕ = length (c .before .before .before .before .before .args .out .now) - length (c .before .before .before .before .before .args .e .now) in
     let z = line-long (c .before .before .before .before .before .args .p) (c .before .before .before .before .before .args .c) m _ (omega arith) (c .before .root-power .ensures) in
     omega arith
@@ -62,10 +62,10 @@ times-spec =
     (tie.spec
     sub-rows
     add-rows
-    array-borrow-prefix-line
+    array-borrow-prefix-power
     slice-aggregate-root-power
     root-power-requires
-    array-share-prefix-line
+    array-share-prefix-power
     slice-aggregate-multiply
     multiply-requires
     same-length
