@@ -14,8 +14,7 @@ use mathlib.Core.List.{List}
 use lib.ListN.{length, drop, List·getD-append}
 use lib.Seq.{ext-getD}
 use Rattle.numbers.specs.Words.{word, over}
-use Rattle.numbers.proofs.WordsLaws.{lt-or-ge, length-over}
-use Rattle.pair.proofs.ColumnLaws.{over-past}
+use Rattle.numbers.proofs.WordsLaws.{lt-or-ge, length-over, over-past}
 use Rattle.sheet.specs.Layout.{degree, width, terms, count, factorsFrom, cofactorsFrom, root, power, end, polynomial, factorRows, cofactorRows}
 use Rattle.sheet.specs.Sheet.{Sound, Given, Holds}
 use Rattle.lift.specs.Extend.{InColumns, ExtendDone}

@@ -188,6 +188,16 @@ writing-all n m f s e w q = w .is ∙ ap (λ (k : ℕ). over (tabulate k f) s) q
 pub writing-take : (xs s e : List ℕ) (n : ℕ) → Writing xs s e → length xs ≡ n → take n e ≡ xs
 writing-take xs s e n w q = ap (take n) (w .is) ∙ take-at xs (drop (length xs) s) n q
 
+-- past what is written the words are the old ones
+pub over-past : (xs s : List ℕ) (k : ℕ) → length xs ≤ k → word (over xs s) k ≡ word s k
+over-past xs s k h =
+    let n = length xs in
+    let q : n + (k - n) ≡ k = omega arith in
+    ap (word (over xs s)) (sym q) ∙ getD-append-add xs (drop n s) (k - n) 0 ∙ getD-drop n s (k - n) 0 ∙ ap (word s) q
+
+pub writing-past : (xs s e : List ℕ) (k : ℕ) → Writing xs s e → length xs ≤ k → word e k ≡ word s k
+writing-past xs s e k w h = ap (λ (l : List ℕ). word l k) (w .is) ∙ over-past xs s k h
+
 -- a list as long as what is written over it
 pub over-whole : (xs s : List ℕ) → length xs ≡ length s → over xs s ≡ xs
 over-whole xs s q = ap (λ (l : List ℕ). xs ++ l) (ap (λ (k : ℕ). drop k s) q ∙ drop-length s) ∙ append-nil xs

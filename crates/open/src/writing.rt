@@ -7,7 +7,6 @@ ghost use lib.ListN.{length, take};
 ghost use Rattle.algebra.specs.Fp.{Prime};
 ghost use Rattle.numbers.specs.Words.{word, over, tabulate, AllBelow};
 ghost use Rattle.rows.specs.Rows.{table, mul};
-ghost use Rattle.pair.specs.Lifting.{firstOnly};
 ghost use Rattle.sheet.specs.Factors.{rootPower, flat};
 ghost use Rattle.sheet.specs.Sheet.{Given};
 ghost use Rattle.sheet.proofs.ContentLaws.{size};
@@ -25,19 +24,6 @@ fn copy(words: &[u32], out: &mut [u32])
     }
 }
 
-// first, 0, 0, ..
-fn lead(first: u32, row: &mut [u32])
-    requires { ⌜ 1 ≤ length (now row) ⌝ }
-    ensures { λ _. ⌜ now (row .exit) ≡ tabulate (length (now (row .entry))) (firstOnly first) ⌝ }
-{
-    row[0] = first;
-    let mut t = 1;
-    while t < row.len() {
-        row[t] = 0;
-        t += 1;
-    }
-}
-
 // Rows with this first column, and 0 past it.
 fn spread(column: &[u32], n: usize, out: &mut [u32])
     requires { ⌜ (1 ≤ n) × (n ≤ 256) × (length (now column) ≤ 33) × (length (now out) ≡ length (now column) * n) ⌝ }
@@ -47,7 +33,7 @@ fn spread(column: &[u32], n: usize, out: &mut [u32])
     while j < column.len() {
         let a = j * n;
         let e = a + n;
-        lead(column[j], &mut out[a..e]);
+        pair::kernel::start_row(column[j], &mut out[a..e]);
         j += 1;
     }
 }

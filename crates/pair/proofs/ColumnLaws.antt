@@ -10,7 +10,7 @@ use native.Mathlib.Omega.{arith}
 use lib.ListN.{length, take, drop, set, length-append, length-drop, length-set, drop-of-length-le, List·getD-append, List·getD-eq-default}
 use lib.Seq.{ext-getD, getD-append-add, getD-drop, getD-take, getD-set-same, getD-set-other, set-getD, length-take-le, take-length, take-all, take-suc, take-suc-set, drop-set-lt, drop-cons, take-at, drop-at, take-append-add, drop-append-add, append-snoc}
 use Rattle.numbers.specs.Words.{word, tabulate, over, AllBelow}
-use Rattle.numbers.proofs.WordsLaws.{lt-or-ge, length-tabulate, word-tabulate, tabulate-below, length-over, over-whole, Writing, writing-next, from, from-is, length-from, from-below}
+use Rattle.numbers.proofs.WordsLaws.{lt-or-ge, length-tabulate, word-tabulate, tabulate-below, length-over, over-whole, Writing, writing-next, over-past, writing-past, from, from-is, length-from, from-below}
 use Rattle.pair.specs.Column.{hornerWord, hornerWords, lessMultiple, digits, lineTimes, undigits, ColumnStored}
 
 -- a number below 2^24 times a word
@@ -20,16 +20,6 @@ product-fits a b h g = mul-le-mul {n₂ = 16777215} {m₂ = 4294967295} (omega a
 -- a row ends before the next begins
 pub row-before : (i j N : ℕ) → i < j → i * N + N ≤ j * N
 row-before i j N l = omega (arith, mul-le-mul {n₁ = suc i} {m₁ = N} {n₂ = j} {m₂ = N} l (le-refl N))
-
--- past what is written the words are the old ones
-pub over-past : (xs s : List ℕ) (k : ℕ) → length xs ≤ k → word (over xs s) k ≡ word s k
-over-past xs s k h =
-    let n = length xs in
-    let q : n + (k - n) ≡ k = omega arith in
-    ap (word (over xs s)) (sym q) ∙ getD-append-add xs (drop n s) (k - n) 0 ∙ getD-drop n s (k - n) 0 ∙ ap (word s) q
-
-pub writing-past : (xs s e : List ℕ) (k : ℕ) → Writing xs s e → length xs ≤ k → word e k ≡ word s k
-writing-past xs s e k w h = ap (λ (l : List ℕ). word l k) (w .is) ∙ over-past xs s k h
 
 -- A list that a loop writes from its end down to word j: from there on the words are those of f, before it the old ones.
 pub record Sinking (f : ℕ → ℕ) (s e : List ℕ) (j : ℕ) : Type 0 where

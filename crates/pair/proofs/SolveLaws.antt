@@ -10,7 +10,7 @@ use native.Mathlib.Omega.{arith}
 use lib.ListN.{length, take, drop, length-drop, List·getD-eq-default}
 use lib.Seq.{getD-drop, length-take-le, take-at, drop-at}
 use Rattle.algebra.specs.Sums.{sumTo, sumTo-suc, sumTo-front, sumTo-ext, sumTo-add}
-use Rattle.algebra.specs.Ring.{CommRing, ring, units, add-assoc, add-comm, add-zero, zero-add, neg-add, mul-assoc, mul-one, pow-zero, pow-suc}
+use Rattle.algebra.specs.Ring.{CommRing, ring, units, add-assoc, add-comm, add-zero, zero-add, neg-add, neg-neg, mul-assoc, mul-one, pow-zero, pow-suc}
 use Rattle.algebra.specs.Series.{Series, conv, tail, add-at, neg-at, zero-at, one-at, mul-at}
 use Rattle.algebra.specs.Poly.{const, lin, linPow, Below, horner, horner-zero, horner-suc, eval, quot, div, const-coeff-zero, const-coeff-suc, const-mul, lin-mul-zero, lin-mul-suc, product-value}
 use Rattle.algebra.specs.Fp.{Fp, rem, rem-add, rem-mul, rem-mod}
@@ -18,6 +18,7 @@ use Rattle.algebra.specs.Bridge.{rem-eq, rem-zero, rem-one, neg-rem, sub-rem, c
 use Rattle.numbers.specs.Words.{word, over, AllBelow}
 use Rattle.numbers.proofs.WordsLaws.{lt-or-ge, length-over}
 use Rattle.rows.specs.Rows.{mul, linePower}
+use Rattle.rows.proofs.ShiftLaws.{line-power as line-plus}
 use Rattle.rows.specs.Passes.{passSum}
 use Rattle.pair.specs.Column.{hornerWord, hornerWords, lessMultiple, digits, lineTimes, undigits, times, lowPart, highPart, Solves}
 use Rattle.pair.proofs.ColumnLaws.{horner-word-suc, horner-word-none, horner-word-rest, horner-words-at, line-words-at, less-words-at, over-below, length-horner, length-undigits, undigits-below, undigits-cons, undigits-none, length-left, length-digits, digits-below, digits-zero, digits-suc, digitOf, leftOf}
@@ -111,17 +112,7 @@ module _ (p : ℕ) (pos : zero < p) where
 
   -- (Y − c)^m
   pub line-power : (c : ℕ) → c < p → (m : ℕ) → poly (linePower p (p - c) m) ≡ linPow K (q c) m
-  unfolding linePower
-  line-power c h zero =
-      fun-ext (elim [ zero ↦ rem-one p pos | suc j ↦ rem-zero p pos ]) ∙ sym (pow-zero (Series K) (lin K (q c)) ∙ one-at K)
-  line-power c h (suc m) =
-      let f = linePower p (p - c) m in
-      fun-ext (elim [
-        | zero ↦ rem-mod p pos _ ∙ sym (rem-mul p pos (p - c) (f zero)) ∙ ap (λ u. u · q (f zero)) (sym (neg-rem p pos c h)) ∙ sym (lin-mul-zero K (q c) (poly f))
-        | suc j ↦ ap (λ x. q (x % p)) (add-commₙ ((p - c) * f (suc j)) (f j)) ∙ line-rem c (f j) (f (suc j)) h ∙ add-comm K (q (f j)) (neg (q c) · q (f (suc j)))
-            ∙ sym (lin-mul-suc K (q c) (poly f) j)
-      ])
-      ∙ ap (λ x. lin K (q c) ⊛ x) (line-power c h m) ∙ sym (pow-suc (Series K) (lin K (q c)) m)
+  line-power c h m = line-plus p pos (p - c) m ∙ ap (λ x. linPow K x m) (ap neg (sym (neg-rem p pos c h)) ∙ neg-neg K (q c))
 
   -- A(c) is a unit, and a is the quotient of A by Y − c
   module _ (c : ℕ) (h : c < p) (A : ℕ → ℕ) (k : ℕ) (top : (j : ℕ) → k ≤ j → A j ≡ 0) (a : List ℕ) (size : length a + 1 ≡ k)

@@ -10,6 +10,7 @@ ghost use Rattle.algebra.specs.Fp.{Prime};
 ghost use Rattle.numbers.specs.Divisor.{inverseOf};
 ghost use Rattle.numbers.specs.Words.{word, over, tabulate, AllBelow};
 ghost use Rattle.rows.specs.Rows.{rowsOf};
+ghost use Rattle.pair.specs.Lifting.{firstOnly};
 ghost use Rattle.pair.specs.Column.{hornerWords, lessMultiple, digits, lineTimes, undigits, middleSum, ColumnStored};
 
 // Horner's scheme at c, in place: word 0 becomes the value at c, the others the quotient by Y − c.
@@ -152,4 +153,17 @@ pub fn prepare(p: u32, c: u32, a: &mut [u32]) -> u32
 {
     horner(p, c, a);
     inverse_of(p, a[0])
+}
+
+// first, 0, 0, ..
+pub fn start_row(first: u32, row: &mut [u32])
+    requires { ⌜ 1 ≤ length (now row) ⌝ }
+    ensures { λ _. ⌜ now (row .exit) ≡ tabulate (length (now (row .entry))) (firstOnly first) ⌝ }
+{
+    row[0] = first;
+    let mut t = 1;
+    while t < row.len() {
+        row[t] = 0;
+        t += 1;
+    }
 }

@@ -15,7 +15,7 @@ ghost use lib.Dec.{ltb, eqb};
 ghost use Rattle.rows.specs.Rows.{rowsOf, table, mul};
 ghost use Rattle.pair.specs.Pair.{monic, orderOf, order, given, lowRows, highRows, firstChecks, pairChecks, continueChecks, rowsBelow, productTest, pairTest, PairDone, Paired, Continued};
 ghost use Rattle.pair.specs.Column.{middleSum, Prepared};
-ghost use Rattle.pair.specs.Lifting.{firstOnly, startRows, Lifting};
+ghost use Rattle.pair.specs.Lifting.{startRows, Lifting};
 
 pub mod kernel; // columns of a split, for callers that have judged
 
@@ -49,19 +49,6 @@ fn check_first(p: u32, d: u32, n: u32, f: &[u32], room: usize) -> Verdict
     Verdict::Pass
 }
 
-// first, 0, 0, ..
-fn start_row(first: u32, row: &mut [u32])
-    requires { ⌜ 1 ≤ length (now row) ⌝ }
-    ensures { λ _. ⌜ now (row .exit) ≡ tabulate (length (now (row .entry))) (firstOnly first) ⌝ }
-{
-    row[0] = first;
-    let mut t = 1;
-    while t < row.len() {
-        row[t] = 0;
-        t += 1;
-    }
-}
-
 // The pair to one term: column 0 is f's.
 fn start(f: &[u32], n: usize, rows: usize, out: &mut [u32])
     requires { ⌜ (length (now f) ≡ rows * n) × (1 ≤ n) × (n ≤ 256) × (rows ≤ 33) × (rows * n ≤ length (now out)) ⌝ }
@@ -71,7 +58,7 @@ fn start(f: &[u32], n: usize, rows: usize, out: &mut [u32])
     while j < rows {
         let a = j * n;
         let e = a + n;
-        start_row(f[a], &mut out[a..e]);
+        kernel::start_row(f[a], &mut out[a..e]);
         j += 1;
     }
 }

@@ -161,17 +161,10 @@ pass-column p a b j t =
     ap (λ (k : ℕ). sumTo k (λ s. a i (0 + s) * b (j - i) (0 + (t + 1 - (s + 1))))) (add-one t)
     ∙ sumTo-ext (suc t) (λ s _. ap₂ (λ (x y : ℕ). a i x * b (j - i) y) (let e : 0 + s ≡ s = omega arith in e) (let e : 0 + (t + 1 - (s + 1)) ≡ t - s = omega arith in e))))
 
--- a word that a loop has written, and one that it has not
+-- a word that a loop has written
 pub writing-word : (n : ℕ) (f : ℕ → ℕ) (s e : List ℕ) (k : ℕ) → Writing (tabulate n f) s e → k < n → word e k ≡ f k
 writing-word n f s e k w h =
     ap (λ (l : List ℕ). word l k) (w .is) ∙ List·getD-append (tabulate n f) (drop (length (tabulate n f)) s) 0 k (omega (arith, length-tabulate n f)) ∙ word-tabulate n f k h
-
-pub writing-past : (n : ℕ) (f : ℕ → ℕ) (s e : List ℕ) (k : ℕ) → Writing (tabulate n f) s e → n ≤ k → word e k ≡ word s k
-writing-past n f s e k w h =
-    let l = length-tabulate n f in
-    let q : length (tabulate n f) + (k - n) ≡ k = omega arith in
-    ap (λ (l : List ℕ). word l k) (w .is) ∙ ap (word (over (tabulate n f) s)) (sym q) ∙ getD-append-add (tabulate n f) (drop (length (tabulate n f)) s) (k - n) 0
-    ∙ getD-drop (length (tabulate n f)) s (k - n) 0 ∙ ap (word s) q
 
 -- the first word is written before the loop
 pub writing-first : (f : ℕ → ℕ) (s : List ℕ) (v : ℕ) → 1 ≤ length s → v ≡ f 0 → Writing (tabulate 1 f) (set s 0 v) (set s 0 v)

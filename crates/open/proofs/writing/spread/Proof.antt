@@ -31,26 +31,26 @@ mul-a c = omega (arith, row-fits (c .before .loop .j) (length (c .before .before
 add-e : tie.Need-add-e Inv-loop μ-loop
 add-e c = omega (arith, row-fits (c .before .loop .j) (length (c .before .before .before .before .args .column .now)) (c .before .before .before .before .args .n) (omega arith), rows-small (length (c .before .before .before .before .args .column .now)) (c .before .before .before .before .args .n) (omega arith) (omega arith))
 
-mul-lead : tie.Need-mul-lead Inv-loop μ-loop
-mul-lead c = search needs
+mul-start-row : tie.Need-mul-start-row Inv-loop μ-loop
+mul-start-row c = search needs
 
-shared-slice-read-lead : tie.Need-shared-slice-read-lead Inv-loop μ-loop
-shared-slice-read-lead c = search needs
+shared-slice-read-start-row : tie.Need-shared-slice-read-start-row Inv-loop μ-loop
+shared-slice-read-start-row c = search needs
 
-mul-lead-2 : tie.Need-mul-lead-2 Inv-loop μ-loop
-mul-lead-2 c = omega (arith, row-fits (c .before .before .loop .j) (length (c .before .before .before .before .before .args .column .now)) (c .before .before .before .before .before .args .n) (omega arith), rows-small (length (c .before .before .before .before .before .args .column .now)) (c .before .before .before .before .before .args .n) (omega arith) (omega arith))
+mul-start-row-2 : tie.Need-mul-start-row-2 Inv-loop μ-loop
+mul-start-row-2 c = omega (arith, row-fits (c .before .before .loop .j) (length (c .before .before .before .before .before .args .column .now)) (c .before .before .before .before .before .args .n) (omega arith), rows-small (length (c .before .before .before .before .before .args .column .now)) (c .before .before .before .before .before .args .n) (omega arith) (omega arith))
 
-sub-lead : tie.Need-sub-lead Inv-loop μ-loop
-sub-lead c = omega (arith, row-fits (c .before .before .loop .j) (length (c .before .before .before .before .before .args .column .now)) (c .before .before .before .before .before .args .n) (omega arith), rows-small (length (c .before .before .before .before .before .args .column .now)) (c .before .before .before .before .before .args .n) (omega arith) (omega arith))
+sub-start-row : tie.Need-sub-start-row Inv-loop μ-loop
+sub-start-row c = omega (arith, row-fits (c .before .before .loop .j) (length (c .before .before .before .before .before .args .column .now)) (c .before .before .before .before .before .args .n) (omega arith), rows-small (length (c .before .before .before .before .before .args .column .now)) (c .before .before .before .before .before .args .n) (omega arith) (omega arith))
 
-part-lead-start : tie.Need-part-lead-start Inv-loop μ-loop
-part-lead-start c = omega (arith, row-fits (c .before .before .loop .j) (length (c .before .before .before .before .before .args .column .now)) (c .before .before .before .before .before .args .n) (omega arith), rows-small (length (c .before .before .before .before .before .args .column .now)) (c .before .before .before .before .before .args .n) (omega arith) (omega arith))
+part-start-row-start : tie.Need-part-start-row-start Inv-loop μ-loop
+part-start-row-start c = omega (arith, row-fits (c .before .before .loop .j) (length (c .before .before .before .before .before .args .column .now)) (c .before .before .before .before .before .args .n) (omega arith), rows-small (length (c .before .before .before .before .before .args .column .now)) (c .before .before .before .before .before .args .n) (omega arith) (omega arith))
 
-part-lead-end : tie.Need-part-lead-end Inv-loop μ-loop
-part-lead-end c = omega (arith, row-fits (c .before .before .loop .j) (length (c .before .before .before .before .before .args .column .now)) (c .before .before .before .before .before .args .n) (omega arith), rows-small (length (c .before .before .before .before .before .args .column .now)) (c .before .before .before .before .before .args .n) (omega arith) (omega arith))
+part-start-row-end : tie.Need-part-start-row-end Inv-loop μ-loop
+part-start-row-end c = omega (arith, row-fits (c .before .before .loop .j) (length (c .before .before .before .before .before .args .column .now)) (c .before .before .before .before .before .args .n) (omega arith), rows-small (length (c .before .before .before .before .before .args .column .now)) (c .before .before .before .before .before .args .n) (omega arith) (omega arith))
 
-lead-requires : tie.Need-lead-requires Inv-loop μ-loop
-lead-requires c κs =
+start-row-requires : tie.Need-start-row-requires Inv-loop μ-loop
+start-row-requires c κs =
     let a = c .before .before .before .before .before .before .args in
     let l = row-fits (c .before .before .before .loop .j) (length (a .column .now)) (a .n) (omega arith) in
     omega (arith, length-part (c .before .before .before .loop .out) (c .before .before .before .loop .j * a .n) (a .n) (omega arith))
@@ -65,7 +65,7 @@ loop-again : tie.Need-loop-again Inv-loop μ-loop
 loop-again c =
     let a = c .before .before .before .before .before .before .before .before .before .args in
     let l = row-fits (c .before .before .before .before .before .before .loop .j) (length (a .column .now)) (a .n) (omega arith) in
-    let q = c .before .before .lead .ensures ∙ ap (λ (k : ℕ). tabulate k (firstOnly (word (a .column .now) (c .before .before .before .before .before .before .loop .j)))) (length-part (c .before .before .before .before .before .before .loop .out) (c .before .before .before .before .before .before .loop .j * a .n) (a .n) (omega arith)) ∙ flat-row (a .n) (word (a .column .now)) (c .before .before .before .before .before .before .loop .j) in
+    let q = c .before .before .start-row .ensures ∙ ap (λ (k : ℕ). tabulate k (firstOnly (word (a .column .now) (c .before .before .before .before .before .before .loop .j)))) (length-part (c .before .before .before .before .before .before .loop .out) (c .before .before .before .before .before .before .loop .j * a .n) (a .n) (omega arith)) ∙ flat-row (a .n) (word (a .column .now)) (c .before .before .before .before .before .before .loop .j) in
     (omega arith, writing-row _ _ (flat (word (a .column .now))) _ _ _ (c .before .before .before .before .before .before .loop .inv .1) q (omega arith))
 
 same-length : tie.Need-same-length Inv-loop μ-loop
@@ -85,13 +85,13 @@ spread-spec =
     loop-holds
     mul-a
     add-e
-    mul-lead
-    shared-slice-read-lead
-    mul-lead-2
-    sub-lead
-    part-lead-start
-    part-lead-end
-    lead-requires
+    mul-start-row
+    shared-slice-read-start-row
+    mul-start-row-2
+    sub-start-row
+    part-start-row-start
+    part-start-row-end
+    start-row-requires
     add-j
     loop-less
     loop-again

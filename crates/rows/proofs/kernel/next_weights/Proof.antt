@@ -7,9 +7,9 @@ use native.Mathlib.Nat.{mod-lt, mul-le-mul}
 use native.Mathlib.Omega.{arith}
 use lib.ListN.{length, set, length-set}
 use Rattle.numbers.specs.Words.{tabulate, word}
-use Rattle.numbers.proofs.WordsLaws.{Writing, writing-next}
+use Rattle.numbers.proofs.WordsLaws.{length-tabulate, Writing, writing-next, writing-past}
 use Rattle.rows.specs.Passes.{nextWeight}
-use Rattle.rows.proofs.RowsLaws.{writing-first, writing-word, writing-past, writing-whole, before, before-is, before-word, next-first, next-turn}
+use Rattle.rows.proofs.RowsLaws.{writing-first, writing-word, writing-whole, before, before-is, before-word, next-first, next-turn}
 use borrow.Author.Needs.{needs}
 use Rattle.rows.proofs.kernel.next_weights.Statement.{statement}
 use Rattle.rows.proofs.kernel.next_weights.Tie as tie
@@ -95,7 +95,7 @@ loop-again c =
       omega arith,
       omega arith,
       writing-next _ _ _ _ _ (c .before .before .before .loop .inv .2) v (omega arith),
-      writing-past _ _ _ _ i (c .before .before .before .loop .inv .2) (omega arith) ∙ before-word (set (a .weights .now) 0 0) (word (a .weights .now) 0) i (omega arith) ∙ ap (word (before (set (a .weights .now) 0 0) (word (a .weights .now) 0))) (let e : i ≡ i + 1 - 1 = omega arith in e),
+      writing-past _ _ _ i (c .before .before .before .loop .inv .2) (omega (arith, length-tabulate i (nextWeight (a .p) (a .c) (word (before (set (a .weights .now) 0 0) (word (a .weights .now) 0)))))) ∙ before-word (set (a .weights .now) 0 0) (word (a .weights .now) 0) i (omega arith) ∙ ap (word (before (set (a .weights .now) 0 0) (word (a .weights .now) 0))) (let e : i ≡ i + 1 - 1 = omega arith in e),
       omega (arith, c .before .slice-known2 .given i),
     )
 

@@ -1,4 +1,4 @@
--- `pair::start_row` meets its contract. The loop's invariant: the words before t are written.
+-- `pair::kernel::start_row` meets its contract. The loop's invariant: the words before t are written.
 -- Assumes nothing.
 use mathlib.Core.Path.{_≡_, refl, ap, _∙_}
 use Prim.Native.Nat.{ℕ, _≤_, _-_}
@@ -10,8 +10,8 @@ use Rattle.rows.proofs.RowsLaws.{writing-first, writing-whole}
 use Rattle.pair.specs.Lifting.{firstOnly}
 use Rattle.pair.proofs.TestLaws.{first-only-later}
 use borrow.Author.Needs.{needs}
-use Rattle.pair.proofs.start_row.Statement.{statement}
-use Rattle.pair.proofs.start_row.Tie as tie
+use Rattle.pair.proofs.kernel.start_row.Statement.{statement}
+use Rattle.pair.proofs.kernel.start_row.Tie as tie
 
 abbrev Inv-loop : tie.InvT-loop
 Inv-loop first row₀ t₀ row t = (1 ≤ t) × (t ≤ length row₀) × Writing (tabulate t (firstOnly first)) row₀ row
