@@ -1,0 +1,45 @@
+-- `list::reply` meets its contract: what `listing::list` answers; it has room.
+-- Assumes nothing.
+use mathlib.Core.Path.{_≡_, ap}
+use Rattle.numbers.specs.Refusals.{outcome}
+use Rattle.listing.proofs.ListingLaws.{listed-never, listed-as}
+use borrow.Author.Needs.{needs}
+use Rattle.list.proofs.reply.Statement.{statement}
+use Rattle.list.proofs.reply.Tie as tie
+
+list-requires : tie.Need-list-requires
+list-requires c κs = search needs
+
+enum-known-long : tie.Need-enum-known-long
+enum-known-long c = search needs
+
+cast-result : tie.Need-cast-result
+cast-result c = search needs
+
+enum-told : tie.Need-enum-told
+enum-told c = search needs
+
+same-length : tie.Need-same-length
+same-length c = search needs
+
+returns : tie.Need-returns
+returns c = listed-as (c .before .before .before .before .before .before .before .before .before .args .job .now) (c .before .before .before .before .before .before .before .before .before .args .text .now) _ _ _ (ap outcome (c .before .long .given .1)) (c .before .before .before .before .before .list .ensures)
+
+same-length-2 : tie.Need-same-length-2
+same-length-2 c = search needs
+
+returns-2 : tie.Need-returns-2
+returns-2 c = listed-never (c .before .before .before .before .before .before .before .before .args .job .now) (c .before .before .before .before .before .before .before .before .args .text .now) _ _ _ _ (ap outcome (c .enum-told .given .1)) (c .before .before .before .before .before .before .before .before .pre) (c .before .before .before .before .list .ensures)
+
+pub reply-spec : {M : Type 1} → statement M
+reply-spec =
+    tie.close
+    (tie.spec
+    list-requires
+    enum-known-long
+    cast-result
+    enum-told
+    same-length
+    returns
+    same-length-2
+    returns-2)

@@ -1,0 +1,376 @@
+-- From the calls that listing makes to the text that the job comes to.
+--   list-refused, list-opens   the verdict of a job: its own checks', or else open's
+--   list-room                  a sheet of 9,600 words is room enough for every job
+--   opened-extended            an accepted open and then extend to N leave a sheet that holds what the job gives, with N terms
+--   text-refused, text-listed  the text under a verdict
+--   wrote-refused, wrote-listed, given-listable   after open: its refusal, or else extend to N
+--   listing-same               two sheets that hold it have one listing
+--   one-listing                each job comes to exactly one text
+-- Assumes nothing.
+use Prim.Native.Nat.{ℕ, zero, suc, _+_, _-_, _*_, _≤_, _<_}
+use native.Mathlib.Nat.{mul-le-mul, add-mul}
+use native.Mathlib.Omega.{arith}
+use mathlib.Core.Path.{_≡_, refl, sym, ap, ap₂, subst, _∙_}
+use mathlib.Core.Bool.{Bool, true, false, not, _||_}
+use mathlib.Core.List.{List, [], _∷_, _++_}
+use lib.Dec.{ltb, eqb}
+use lib.ListN.{length, getD, take, drop, length-append}
+use lib.Seq.{getD-take, length-take-le, take-at}
+use borrow.Author.Tests.{le-ltb, lt-ltb, ltb-false, eqb-true, not-false}
+use Rattle.algebra.specs.Sums.{sumTo, sumTo-bound, sumTo-ext, sumTo-suc, sumTo-mono}
+use Rattle.numbers.specs.Words.{word, tabulate, over, outside}
+use Rattle.numbers.specs.Refusals.{check, judge, refusal, Outcome, accepted, refused, result, written, modulusChecks}
+use Rattle.numbers.specs.declared.refusal.Refusal.{Refusal}
+use Rattle.numbers.specs.declared.refusal.Verdict.{Verdict}
+use Rattle.numbers.specs.declared.refusal.Verdict.the-variants.{Pass, Refuse}
+use Rattle.numbers.proofs.RefusalsLaws.{after-pass, after-refuse, pass-parts, take-check, skip-check, none-judged, pass-check, neither, inside, answer-refused}
+use Rattle.numbers.proofs.WordsLaws.{tabulate-ext, length-tabulate}
+use Rattle.pair.specs.Pair.{Leaves}
+use Rattle.sheet.specs.Layout.{modulus, degree, width, terms, count, root, power, factor, codegree, factorsFrom, cofactorsFrom, end}
+use Rattle.sheet.specs.Sheet.{Given, Sound, Holds}
+use Rattle.sheet.proofs.RegionsLaws.{in-rows}
+use Rattle.sheet.proofs.SoundTestLaws.{sound-test}
+use Rattle.sheet.proofs.UniqueLaws.{holds-unique}
+use Rattle.lift.specs.Extend.{extendVerdict, ExtendDone, Extended}
+use Rattle.lift.proofs.ExtendingLaws.{extend-holds}
+use Rattle.open.specs.Open.{needed, openChecks, openVerdict, OpenDone, Opened, powersOf, orNil}
+use Rattle.open.proofs.OpeningLaws.{open-ready, OneSheet, sheet-exists}
+use Rattle.listing.specs.Text.{joinTo, rowLine, rowLines, rootLine, headLine, factorText, listingText, refusedText, Listable, Puts}
+use Rattle.listing.proofs.TextLaws.{puts-as}
+use Rattle.listing.proofs.SheetTextLaws.{listable}
+use Rattle.listing.specs.Job.{half, halves, misplaced, placeChecks, sizeChecks, jobChecks, jobGiven, listVerdict}
+use Rattle.listing.specs.Listing.{TextOf, IsListing, Wrote, WroteGiven, roomVerdict, Listed}
+
+-- the verdict of a job: its own checks', or else open's
+pub list-refused : (b : List ℕ) (r : Refusal) → judge (jobChecks b) ≡ Refuse r → listVerdict b ≡ Refuse r
+unfolding listVerdict
+list-refused b r e = after-refuse (jobChecks b) (openChecks (jobGiven b) (needed (jobGiven b))) r e
+
+pub list-opens : (b : List ℕ) → judge (jobChecks b) ≡ Pass → listVerdict b ≡ openVerdict (jobGiven b) (needed (jobGiven b))
+unfolding listVerdict openVerdict
+list-opens b e = after-pass (jobChecks b) (openChecks (jobGiven b) (needed (jobGiven b))) e
+
+pass-open : (b : List ℕ) → listVerdict b ≡ Pass → openVerdict (jobGiven b) (needed (jobGiven b)) ≡ Pass
+unfolding listVerdict openVerdict
+pass-open b e = pass-parts (jobChecks b) (openChecks (jobGiven b) (needed (jobGiven b))) e .1
+
+-- open's verdict is the same wherever there is room
+pub open-room : (g : Given) (room : ℕ) → needed g ≤ room → openVerdict g room ≡ openVerdict g (needed g)
+unfolding openVerdict
+open-room g room h = rw (le-ltb room (needed g) h, le-ltb (needed g) (needed g) (omega arith))
+
+-- 9,600 words are room enough within the job file's limits
+pub list-room : (g : Given) → g .D ≤ 12 → g .N ≤ 64 → length (g .roots) ≤ 12 → needed g ≤ 9600
+unfolding needed
+list-room g d n r =
+    let m : ℕ → ℕ = word (orNil (powersOf g)) in
+    let s = sumTo-bound (length (g .roots) - 2) 12 (codegree (g .D) m) (λ i l. omega arith) in
+    let c : sumTo (length (g .roots) - 2) (codegree (g .D) m) ≤ 120 = omega arith in
+    let p : sumTo (length (g .roots) - 2) (codegree (g .D) m) * g .N ≤ 120 * 64 = mul-le-mul c n in
+    let a : 2 * g .D + 1 ≤ 25 = omega arith in
+    let q : (2 * g .D + 1) * g .N ≤ 25 * 64 = mul-le-mul a n in
+    omega arith
+
+-- an accepted open leaves a sheet that holds what it was given
+pub opened-holds : (g : Given) (old new : List ℕ) (a : Outcome ℕ) → Opened g old a new → openVerdict g (length old) ≡ Pass → Holds g 1 new
+opened-holds g old new a o e = subst (λ (v : Verdict). Leaves v (OpenDone g old new (needed g)) old new) e (o .leaves) .holds
+
+pub extended-holds : (g : Given) (old new : List ℕ) (a : Outcome ℕ) (w : ℕ) → Holds g 1 old → Extended old w a new → extendVerdict old w ≡ Pass → Holds g w new
+extended-holds g old new a w h x e =
+    extend-holds old (h .sound) w new (subst (λ (v : Verdict). Leaves v (ExtendDone old w new) old new) e (x .leaves)) g 1 h
+
+-- texts of sheets with the same words
+join-ext : (n : ℕ) (f g : ℕ → List ℕ) → ((i : ℕ) → i < n → f i ≡ g i) → joinTo n f ≡ joinTo n g
+unfolding joinTo
+join-ext zero f g h = refl
+join-ext (suc n) f g h = ap₂ _++_ (join-ext n f g (λ i l. h i (omega arith))) (h n (omega arith))
+
+-- two sheets that hold the same, with the same terms, have one listing
+module _ (g : Given) (k : ℕ) (s u : List ℕ) (hs : Holds g k s) (hu : Holds g k u) where
+  agree : (i : ℕ) → i < end s → word s i ≡ word u i
+  agree i l =
+      sym (getD-take (end s) s i 0 l) ∙ ap (λ (x : List ℕ). word x i) (holds-unique g k s u hs hu) ∙ getD-take (end s) u i 0 l
+
+  same-D : degree s ≡ degree u
+  same-D = agree 1 (omega arith)
+
+  same-N : width s ≡ width u
+  same-N = agree 2 (omega arith)
+
+  same-r : count s ≡ count u
+  same-r = agree 4 (omega arith)
+
+  same-root : (i : ℕ) → i < count s → root s i ≡ root u i
+  same-root i l = agree (10 + 2 * i) (omega arith)
+
+  same-power : (i : ℕ) → i < count s → power s i ≡ power u i
+  same-power i l = agree (10 + 2 * i + 1) (omega arith)
+
+  factor-place : (i j t : ℕ) → i < count s → j < power s i → t < width s → factorsFrom (degree s) (width s) (count s) + (sumTo i (power s) + j) * width s + t < end s
+  factor-place i j t l m n =
+      let below : sumTo i (power s) + j < degree s =
+      omega (arith, hs .sound .factors .degree, sumTo-suc i (power s), sumTo-mono (suc i) (count s) (power s) (let z : suc i ≤ count s = omega arith in z)) in
+      let a = in-rows (degree s) (width s) (sumTo i (power s) + j) t below n in
+      let e = add-mul (degree s + 1) (degree s) (width s) in
+      let d : (2 * degree s + 1) * width s ≡ (degree s + 1 + degree s) * width s = ap (λ (x : ℕ). x * width s) (let z : 2 * degree s + 1 ≡ degree s + 1 + degree s = omega arith in z) in
+      omega arith
+
+  same-factor : (i j t : ℕ) → i < count s → j < power s i → t < width s → factor s i j t ≡ factor u i j t
+  same-factor i j t l m n =
+      let before : sumTo i (power s) ≡ sumTo i (power u) = sumTo-ext i (λ x y. same-power x (omega arith)) in
+      agree (factorsFrom (degree s) (width s) (count s) + (sumTo i (power s) + j) * width s + t) (factor-place i j t l m n)
+      ∙ ap (λ (D : ℕ). word u (factorsFrom D (width s) (count s) + (sumTo i (power s) + j) * width s + t)) same-D
+      ∙ ap (λ (N : ℕ). word u (factorsFrom (degree u) N (count s) + (sumTo i (power s) + j) * N + t)) same-N
+      ∙ ap (λ (r : ℕ). word u (factorsFrom (degree u) (width u) r + (sumTo i (power s) + j) * width u + t)) same-r
+      ∙ ap (λ (b : ℕ). word u (factorsFrom (degree u) (width u) (count u) + (b + j) * width u + t)) before
+
+  same-lines : (i : ℕ) → i < count s → factorText s i ≡ factorText u i
+  unfolding factorText rowLines
+  same-lines i l =
+      ap₂ _++_ (ap₂ rootLine (same-root i l) (same-power i l))
+      (join-ext (power s i) _ _ (λ j m. ap (rowLine j) (tabulate-ext (width s) (factor s i j) (factor u i j) (λ t n. same-factor i j t l m n)
+      ∙ ap (λ (N : ℕ). tabulate N (factor u i j)) same-N))
+      ∙ ap (λ (m : ℕ). joinTo m (λ j. rowLine j (tabulate (width u) (factor u i j)))) (same-power i l))
+
+  pub listing-same : listingText s ≡ listingText u
+  unfolding listingText
+  listing-same =
+      ap₂ _++_
+      (ap (λ (p : ℕ). headLine p (terms s) (degree s) (count s)) (agree 0 (omega arith))
+      ∙ ap (λ (t : ℕ). headLine (modulus u) t (degree s) (count s)) (agree 3 (omega arith))
+      ∙ ap₂ (headLine (modulus u) (terms u)) same-D same-r)
+      (join-ext (count s) (factorText s) (factorText u) same-lines ∙ ap (λ (r : ℕ). joinTo r (factorText u)) same-r)
+
+never : {A : Type 0} (v : Verdict) (r : Refusal) → v ≡ Refuse r → v ≡ Pass → A
+never v r e q = absurd (let z : _≡_ {A = ℕ} 0 1 = cc in omega arith)
+
+same-refusal : (v : Verdict) (r q : Refusal) → v ≡ Refuse r → v ≡ Refuse q → r ≡ q
+same-refusal v r q e f = cc
+
+-- the text under a verdict
+pub text-refused : (v : Verdict) (g : Given) (r : Refusal) → v ≡ Refuse r → TextOf v g (refusedText (r .number) (r .detail))
+text-refused v g r e = record {
+  refused = λ q f. ap (λ (x : Refusal). refusedText (x .number) (x .detail)) (same-refusal v r q e f);
+  listed = λ f s h. never v r e f;
+}
+
+pub text-listed : (v : Verdict) (g : Given) (s : List ℕ) → v ≡ Pass → Holds g (g .N) s → TextOf v g (listingText s)
+text-listed v g s e h = record { refused = λ q f. never v q f e; listed = λ f u k. listing-same g (g .N) s u h k }
+
+-- each job comes to exactly one text
+pub record OneListing (job : List ℕ) : Type 0 where
+  pub text : List ℕ
+  pub is : IsListing job text
+  pub only : (other : List ℕ) → IsListing job other → other ≡ text
+
+pub one-listing : (job : List ℕ) → OneListing job
+one-listing job = go (listVerdict job) refl
+  where
+    go : (v : Verdict) → listVerdict job ≡ v → OneListing job
+    go Pass e =
+        let g = jobGiven job in
+        let ready = open-ready g (needed g) (pass-open job e) .0 in
+        let one = sheet-exists g ready (g .N) (ready .width-low) (omega arith) in
+        record { text = listingText (one .words); is = text-listed (listVerdict job) g (one .words) e (one .holds); only = λ other x. x .listed e (one .words) (one .holds) }
+    go (Refuse r) e = record { text = refusedText (r .number) (r .detail); is = text-refused (listVerdict job) (jobGiven job) r e; only = λ other x. x .refused r e }
+
+-- handing a text over: no room, and room
+pub no-room : (text old : List ℕ) → length old < length text → roomVerdict text old ≡ Refuse (refusal 10 (length text))
+no-room text old h = take-check (check 10 (ltb (length old) (length text)) (length text)) [] (lt-ltb (length old) (length text) h)
+
+pub has-room : (text old : List ℕ) → length text ≤ length old → roomVerdict text old ≡ Pass
+has-room text old h = skip-check (check 10 (ltb (length old) (length text)) (length text)) [] (le-ltb (length old) (length text) h) ∙ none-judged
+
+pub put-over : {n a : ℕ} {text old new : List ℕ} → Puts n text 0 old a new → new ≡ over text old
+put-over {n} {a} {text} {old} {new} f = f .leaves ∙ ap (λ (k : ℕ). text ++ drop k old) (let z : 0 + length text ≡ length text = omega arith in z)
+
+pub handed-none : (text old : List ℕ) → length old < length text
+    → (_≡_ {A = Outcome ℕ} (refused 10 (length text)) (result (roomVerdict text old) (length text))) × (old ≡ written (roomVerdict text old) (over text old) old)
+handed-none text old h = answer-refused {v = roomVerdict text old} (refusal 10 (length text)) (length text) (over text old) old (no-room text old h)
+
+pub handed-all : (text old : List ℕ) {n a : ℕ} {new : List ℕ} → length text ≤ length old → Puts n text 0 old a new
+    → (_≡_ {A = Outcome ℕ} (accepted (length text)) (result (roomVerdict text old) (length text))) × (new ≡ written (roomVerdict text old) (over text old) old)
+handed-all text old h f = rw (has-room text old h) (refl, put-over f)
+
+-- what is known of a job whose own checks pass
+pub record Limits (b : List ℕ) : Type 0 where
+  pub degree-low : 1 ≤ half b 1
+  pub degree-high : half b 1 ≤ 12
+  pub terms-low : 1 ≤ half b 2
+  pub terms-high : half b 2 ≤ 64
+  pub count-high : half b 3 ≤ 12
+  pub long : length b ≡ 12 + 2 * half b 3 + 2 * ((half b 1 + 1) * half b 2)
+
+pub job-limits : (b : List ℕ) → judge (jobChecks b) ≡ Pass → Limits b
+job-limits b e =
+    let c₀ = pass-check (check 5 (ltb (length b) 12) 0) (modulusChecks (half b 0) ++ sizeChecks b) e in
+    let m = pass-parts (modulusChecks (half b 0)) (sizeChecks b) (c₀ .1) in
+    let c₃ = pass-check (check 3 (outside 1 12 (half b 1)) 0) (check 4 (outside 1 64 (half b 2)) 0 ∷ placeChecks b (half b 1) (half b 2)) (m .1) in
+    let c₄ = pass-check (check 4 (outside 1 64 (half b 2)) 0) (placeChecks b (half b 1) (half b 2)) (c₃ .1) in
+    let c₅ = pass-check (check 5 (ltb 12 (half b 3) || misplaced b (half b 1) (half b 2)) 0) [] (c₄ .1) in
+    let d = inside 1 12 (half b 1) (c₃ .0) in
+    let n = inside 1 64 (half b 2) (c₄ .0) in
+    let r = neither (ltb 12 (half b 3)) (misplaced b (half b 1) (half b 2)) (c₅ .0) in
+    let o = neither (not (eqb (half b 4) 12)) (not (eqb (half b 5) (12 + 2 * half b 3)) || not (eqb (length b) (12 + 2 * half b 3 + 2 * ((half b 1 + 1) * half b 2)))) (r .1) in
+    let q = neither (not (eqb (half b 5) (12 + 2 * half b 3))) (not (eqb (length b) (12 + 2 * half b 3 + 2 * ((half b 1 + 1) * half b 2)))) (o .1) in
+    record {
+      degree-low = d .0;
+      degree-high = d .1;
+      terms-low = n .0;
+      terms-high = n .1;
+      count-high = ltb-false 12 (half b 3) (r .0);
+      long = eqb-true (length b) (12 + 2 * half b 3 + 2 * ((half b 1 + 1) * half b 2)) (not-false (eqb (length b) (12 + 2 * half b 3 + 2 * ((half b 1 + 1) * half b 2))) (q .1));
+    }
+
+-- open's verdict on a job's words, in a sheet of 9,600, is the job's
+pub list-verdict : (b : List ℕ) (room : ℕ) → judge (jobChecks b) ≡ Pass → room ≡ 9600 → listVerdict b ≡ openVerdict (jobGiven b) room
+unfolding jobGiven
+list-verdict b room e q =
+    let l = job-limits b e in
+    let n = list-room (jobGiven b) (l .degree-high) (l .terms-high) (omega (arith, l .count-high, length-tabulate (half b 3) (λ i. half b (6 + i)))) in
+    list-opens b e ∙ sym (open-room (jobGiven b) room (omega arith))
+
+-- what open leaves can be extended to any number of terms from 1 to N
+pub extend-passes : (g : Given) (s : List ℕ) (w : ℕ) → Holds g 1 s → 1 ≤ w → w ≤ g .N → extendVerdict s w ≡ Pass
+unfolding extendVerdict judge
+extend-passes g s w h low high =
+    simp (sound-test s .1 (h .sound), le-ltb w 1 low, le-ltb (width s) w (omega (arith, h .same-width)), le-ltb w (terms s) (omega (arith, h .same-terms)))
+
+-- after open: its refusal, or else extend to N
+unlike : {A : Type 0} (T n d : ℕ) → _≡_ {A = Outcome ℕ} (refused n d) (accepted T) → A
+unlike T n d e = absurd (let z : _≡_ {A = ℕ} 0 1 = cc in let y : ⊥ = omega arith in y)
+
+module _ (g : Given) (old mid : List ℕ) (a : Outcome ℕ) (room : length old ≡ 9600) (o : Opened g old a mid) where
+  answered : a ≡ result (openVerdict g 9600) (needed g)
+  answered = subst (λ (n : ℕ). a ≡ result (openVerdict g n) (needed g)) room (o .answers)
+
+  refused-text : (n d : ℕ) → a ≡ refused n d → TextOf (openVerdict g 9600) g (refusedText n d)
+  refused-text n d is = go (openVerdict g 9600) refl (sym is ∙ answered)
+    where
+      go : (v : Verdict) → openVerdict g 9600 ≡ v → _≡_ {A = Outcome ℕ} (refused n d) (result v (needed g)) → TextOf (openVerdict g 9600) g (refusedText n d)
+      go Pass q e = unlike (needed g) n d e
+      go (Refuse r) q e =
+          let m : r .number ≡ n = cc in
+          let l : r .detail ≡ d = cc in
+          subst (λ (x : List ℕ). TextOf (openVerdict g 9600) g x) (ap₂ refusedText m l) (text-refused (openVerdict g 9600) g r q)
+
+  pub wrote-refused : (n d : ℕ) {at : ℕ} {out new : List ℕ} → a ≡ refused n d → Puts 30 (refusedText n d) 0 out at new → Wrote (openVerdict g 9600) g out at new
+  wrote-refused n d is f =
+      record { text = refusedText n d; is = refused-text n d is; puts = puts-as 9216 (refusedText n d) f refl (omega arith) }
+
+  passed : (T : ℕ) → a ≡ accepted T → openVerdict g 9600 ≡ Pass
+  passed T is = go (openVerdict g 9600) refl (sym is ∙ answered)
+    where
+      go : (v : Verdict) → openVerdict g 9600 ≡ v → _≡_ {A = Outcome ℕ} (accepted T) (result v (needed g)) → openVerdict g 9600 ≡ Pass
+      go Pass q e = q
+      go (Refuse r) q e = unlike T (r .number) (r .detail) (sym e)
+
+  holds-all : (T w : ℕ) (b : Outcome ℕ) (new : List ℕ) → a ≡ accepted T → w ≡ g .N → Extended mid w b new → Holds g (g .N) new
+  holds-all T w b new is e x =
+      let v = passed T is in
+      let h = opened-holds g old mid a o (ap (openVerdict g) room ∙ v) in
+      let ready = open-ready g 9600 v .0 in
+      let y = extended-holds g mid new b w h x (extend-passes g mid w h (omega (arith, ready .width-low)) (omega arith)) in
+      subst (λ (n : ℕ). Holds g n new) e y
+
+  pub given-listable : (T w : ℕ) (b : Outcome ℕ) (new : List ℕ) → a ≡ accepted T → w ≡ g .N → g .D ≤ 12 → g .N ≤ 64 → Extended mid w b new → Listable new
+  given-listable T w b new is e d n x =
+      let h = holds-all T w b new is e x in
+      listable new (h .sound) (omega (arith, h .same-degree)) (omega (arith, h .same-width))
+
+  pub wrote-listed : (T w : ℕ) (b : Outcome ℕ) (new : List ℕ) {at : ℕ} {out text : List ℕ} → a ≡ accepted T → w ≡ g .N → Extended mid w b new
+      → Puts 9216 (listingText new) 0 out at text → Wrote (openVerdict g 9600) g out at text
+  wrote-listed T w b new is e x f =
+      record { text = listingText new; is = text-listed (openVerdict g 9600) g new (passed T is) (holds-all T w b new is e x); puts = f }
+
+-- the words of a job, where they were loaded into the first m words of an array
+pub loaded-first : (b : List ℕ) (from o m k : ℕ) (zeros new : List ℕ) → m ≤ length zeros → from ≡ o → m ≡ k → new ≡ halves b from (length (take m zeros))
+    → take m (new ++ drop m zeros) ≡ halves b o k
+loaded-first b from o m k zeros new h e f is =
+    let n : length (take m zeros) ≡ m = length-take-le m zeros h in
+    let w : new ≡ halves b o k = is ∙ ap₂ (λ (x y : ℕ). halves b x y) e (n ∙ f) in
+    let l : length new ≡ m = ap length w ∙ length-tabulate k (λ i. half b (o + i)) ∙ sym f in
+    take-at new (drop m zeros) m l ∙ w
+
+pub loaded-long : (b : List ℕ) (from m : ℕ) (zeros new : List ℕ) → m ≤ length zeros → new ≡ halves b from (length (take m zeros)) → m ≤ length (new ++ drop m zeros)
+loaded-long b from m zeros new h is =
+    let n = length-take-le m zeros h in
+    let l = ap length is ∙ length-tabulate (length (take m zeros)) (λ i. half b (from + i)) in
+    omega (arith, length-append new (drop m zeros))
+
+pub load-fits : (from r long : ℕ) (zeros : List ℕ) → r ≤ length zeros → 2 * (from + r) ≤ long → 2 * (from + length (take r zeros)) ≤ long
+load-fits from r long zeros h e = omega (arith, length-take-le r zeros h)
+
+-- what a job gives, word by word
+abbrev to : (p D N : ℕ) (rows roots : List ℕ) → Given
+to p D N rows roots = record { p = p; D = D; N = N; rows = rows; roots = roots }
+
+given-same : (b : List ℕ) (g : Given) → g .p ≡ half b 0 → g .D ≡ half b 1 → g .N ≡ half b 2 → g .rows ≡ halves b (6 + half b 3) ((half b 1 + 1) * half b 2)
+    → g .roots ≡ halves b 6 (half b 3) → g ≡ jobGiven b
+unfolding jobGiven
+given-same b g p d n rows roots =
+    let A = halves b (6 + half b 3) ((half b 1 + 1) * half b 2) in
+    let s₀ : g ≡ record { p = half b 0; D = g .D; N = g .N; rows = g .rows; roots = g .roots } = ap (λ (x : ℕ). to x (g .D) (g .N) (g .rows) (g .roots)) p in
+    let s₁ = ap (λ (x : ℕ). to (half b 0) x (g .N) (g .rows) (g .roots)) d in
+    let s₂ = ap (λ (x : ℕ). to (half b 0) (half b 1) x (g .rows) (g .roots)) n in
+    let s₃ = ap (λ (x : List ℕ). to (half b 0) (half b 1) (half b 2) x (g .roots)) rows in
+    let s₄ = ap (λ (x : List ℕ). to (half b 0) (half b 1) (half b 2) A x) roots in
+    s₀ ∙ s₁ ∙ s₂ ∙ s₃ ∙ s₄
+
+-- after a job's own checks, the text is that of open's verdict
+pub wrote-job : (b : List ℕ) (g : Given) {out new : List ℕ} {at : ℕ} → judge (jobChecks b) ≡ Pass → g .p ≡ half b 0 → g .D ≡ half b 1 → g .N ≡ half b 2
+    → g .rows ≡ halves b (6 + half b 3) ((half b 1 + 1) * half b 2) → g .roots ≡ halves b 6 (half b 3) → WroteGiven g out at new
+    → Wrote (listVerdict b) (jobGiven b) out at new
+wrote-job b g {out} {new} {at} e p d n rows roots w =
+    let s = subst (λ (x : Given). WroteGiven x out at new) (given-same b g p d n rows roots) w in
+    subst (λ (v : Verdict). Wrote v (jobGiven b) out at new) (sym (list-verdict b 9600 e refl)) s
+
+-- the text of a job that its own checks refuse
+pub wrote-early : (b : List ℕ) (r : Refusal) {out new : List ℕ} {at : ℕ} → judge (jobChecks b) ≡ Refuse r → Puts 30 (refusedText (r .number) (r .detail)) 0 out at new
+    → Wrote (listVerdict b) (jobGiven b) out at new
+wrote-early b r e f = record {
+  text = refusedText (r .number) (r .detail);
+  is = text-refused (listVerdict b) (jobGiven b) r (list-refused b r e);
+  puts = puts-as 9216 (refusedText (r .number) (r .detail)) f refl (omega arith);
+}
+
+-- a text written is handed over as far as it goes
+module _ (job zeros bytes : List ℕ) (long : ℕ) (w : Wrote (listVerdict job) (jobGiven job) zeros long bytes) where
+  first-long : long ≡ length (w .text)
+  first-long = w .puts .answers ∙ (let z : 0 + length (w .text) ≡ length (w .text) = omega arith in z)
+
+  first-is : take long bytes ≡ w .text
+  first-is = ap (take long) (put-over (w .puts)) ∙ take-at (w .text) (drop (length (w .text)) zeros) long (sym first-long)
+
+  pub first-fits : (long ≤ length bytes) × (length (take long bytes) ≤ 9216)
+  first-fits = (omega (arith, w .puts .fits, w .puts .long, first-long), omega (arith, ap length first-is, w .puts .within))
+
+  pub listed-all : (text old new : List ℕ) (a : Outcome ℕ) → text ≡ take long bytes → a ≡ result (roomVerdict text old) (length text)
+      → new ≡ written (roomVerdict text old) (over text old) old → Listed job old a new
+  listed-all text old new a is e f = record {
+    text = text;
+    is = subst (λ (x : List ℕ). IsListing job x) (sym (is ∙ first-is)) (w .is);
+    short = omega (arith, ap length (is ∙ first-is), w .puts .within);
+    answers = e;
+    leaves = f;
+  }
+
+-- an accepted listing is no longer than the room for it
+pub listed-fits : (job old new : List ℕ) (a : Outcome ℕ) (n : ℕ) → a ≡ accepted n → Listed job old a new → n ≤ length old
+listed-fits job old new a n is h = go (ltb (length old) (length (h .text))) refl
+  where
+    go : (b : Bool) → ltb (length old) (length (h .text)) ≡ b → n ≤ length old
+    go true e = unlike n 10 (length (h .text)) (sym (h .answers ∙ ap (λ (v : Verdict). result v (length (h .text))) (take-check (check 10 (ltb (length old) (length (h .text))) (length (h .text))) [] e)) ∙ is)
+    go false e =
+        let l = ltb-false (length old) (length (h .text)) e in
+        let q : _≡_ {A = Outcome ℕ} (accepted n) (accepted (length (h .text))) = sym is ∙ h .answers ∙ ap (λ (v : Verdict). result v (length (h .text))) (has-room (h .text) old l) in
+        let z : n ≡ length (h .text) = cc in
+        omega arith
+
+-- 9,216 bytes are always room enough
+pub listed-never : {A : Type 0} (job old new : List ℕ) (a : Outcome ℕ) (n d : ℕ) → a ≡ refused n d → 9216 ≤ length old → Listed job old a new → A
+listed-never job old new a n d is room h =
+    unlike (length (h .text)) n d (sym is ∙ h .answers ∙ ap (λ (v : Verdict). result v (length (h .text))) (has-room (h .text) old (omega (arith, h .short))))
+
+pub listed-as : (job old new : List ℕ) (a : Outcome ℕ) (n : ℕ) → a ≡ accepted n → Listed job old a new → Listed job old (accepted n) new
+listed-as job old new a n is h = subst (λ (x : Outcome ℕ). Listed job old x new) is h

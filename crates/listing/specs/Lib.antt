@@ -1,0 +1,4 @@
+pub mod Decimal
+pub mod Text
+pub mod Job
+pub mod Listing

@@ -1,0 +1,48 @@
+-- What listing a job answers and leaves.
+--   TextOf v g text      under the verdict v, the line of the refusal, or the listing of the sheet that holds what is given, with N terms
+--   IsListing job text   the text that the job comes to
+--   Wrote, WroteGiven    such a text was written to a buffer
+--   Listed ..            lent `old`, listing answers `answer` and leaves `new`: 10 where the text has no room, never with 9,216 bytes
+-- (`one-listing` shows that each job comes to exactly one text.)
+-- Assumes nothing.
+use Prim.Native.Nat.{ℕ, _≤_}
+use mathlib.Core.Path.{_≡_}
+use mathlib.Core.List.{List, [], _∷_}
+use lib.Dec.{ltb}
+use lib.ListN.{length}
+use Rattle.numbers.specs.Words.{over}
+use Rattle.numbers.specs.Refusals.{check, judge, Outcome, result, written}
+use Rattle.numbers.specs.declared.refusal.Refusal.{Refusal}
+use Rattle.numbers.specs.declared.refusal.Verdict.{Verdict}
+use Rattle.numbers.specs.declared.refusal.Verdict.the-variants.{Pass, Refuse}
+use Rattle.sheet.specs.Sheet.{Given, Holds}
+use Rattle.open.specs.Open.{openVerdict}
+use Rattle.listing.specs.Job.{jobGiven, listVerdict}
+use Rattle.listing.specs.Text.{listingText, refusedText, Puts}
+
+pub record TextOf (v : Verdict) (g : Given) (text : List ℕ) : Type 0 where
+  pub refused : (r : Refusal) → v ≡ Refuse r → text ≡ refusedText (r .number) (r .detail)
+  pub listed : v ≡ Pass → (s : List ℕ) → Holds g (g .N) s → text ≡ listingText s
+
+abbrev pub IsListing : (job text : List ℕ) → Type 0
+IsListing job text = TextOf (listVerdict job) (jobGiven job) text
+
+-- the text of what is given stands at the buffer's beginning
+pub record Wrote (v : Verdict) (g : Given) (old : List ℕ) (answer : ℕ) (new : List ℕ) : Type 0 where
+  pub text : List ℕ
+  pub is : TextOf v g text
+  pub puts : Puts 9216 text 0 old answer new
+
+-- by open's verdict in a sheet of 9,600 words
+abbrev pub WroteGiven : (g : Given) (old : List ℕ) (answer : ℕ) (new : List ℕ) → Type 0
+WroteGiven g old answer new = Wrote (openVerdict g 9600) g old answer new
+
+abbrev pub roomVerdict : (text old : List ℕ) → Verdict
+roomVerdict text old = judge (check 10 (ltb (length old) (length text)) (length text) ∷ [])
+
+pub record Listed (job old : List ℕ) (answer : Outcome ℕ) (new : List ℕ) : Type 0 where
+  pub text : List ℕ
+  pub is : IsListing job text
+  pub short : length text ≤ 9216
+  pub answers : answer ≡ result (roomVerdict text old) (length text)
+  pub leaves : new ≡ written (roomVerdict text old) (over text old) old
