@@ -1,7 +1,6 @@
 -- Laws of decimals: reading digits back gives the number, and a word has at most ten.
 -- Assumes nothing.
 use Prim.Native.Nat.{ℕ, zero, suc, _+_, _-_, _*_, _/_, _%_, _≤_, _<_}
-use native.Mathlib.Nat.{le-of-suc-le-suc}
 use native.Mathlib.Omega.{arith}
 use mathlib.Core.Path.{_≡_, refl, sym, ap, subst, _∙_}
 use mathlib.Core.Bool.{Bool, true, false}
@@ -9,7 +8,7 @@ use mathlib.Core.List.{List, [], _∷_, _++_, append-assoc, append-nil}
 use lib.Dec.{ltb}
 use lib.ListN.{length, take, drop, set, length-append, length-set, length-drop}
 use lib.Seq.{take-all, drop-cons, drop-length, drop-set-lt, getD-set-same}
-use borrow.Author.Tests.{lt-ltb, le-ltb, ltb-true, ltb-false}
+use borrow.Author.Tests.{lt-ltb, le-ltb, ltb-false}
 use Rattle.numbers.specs.Words.{choose}
 use Rattle.listing.specs.Decimal.{digit, digits, digitsWithin, readOn, readDecimal}
 

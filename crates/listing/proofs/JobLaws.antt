@@ -9,8 +9,8 @@ use mathlib.Core.List.{List, [], _∷_, _++_}
 use lib.Dec.{ltb, eqb}
 use lib.ListN.{length}
 use borrow.Author.Tests.{lt-ltb, le-ltb, eq-eqb, ne-eqb}
-use Rattle.numbers.specs.Words.{outside, tabulate}
-use Rattle.numbers.specs.Refusals.{Check, check, judge, refusal, modulusChecks}
+use Rattle.numbers.specs.Words.{outside}
+use Rattle.numbers.specs.Refusals.{check, judge, refusal, modulusChecks}
 use Rattle.numbers.specs.declared.refusal.Refusal.{Refusal}
 use Rattle.numbers.specs.declared.refusal.Verdict.the-variants.{Pass, Refuse}
 use Rattle.numbers.proofs.RefusalsLaws.{take-check, skip-check, after-pass, after-refuse, none-judged}

@@ -1,9 +1,11 @@
 -- From the calls that listing makes to the text that the job comes to.
 --   list-refused, list-opens   the verdict of a job: its own checks', or else open's
 --   list-room                  a sheet of 9,600 words is room enough for every job
---   opened-extended            an accepted open and then extend to N leave a sheet that holds what the job gives, with N terms
+--   opened-holds, extended-holds   an accepted open, and then extend to N, leave a sheet that holds what the job gives
 --   text-refused, text-listed  the text under a verdict
 --   wrote-refused, wrote-listed, given-listable   after open: its refusal, or else extend to N
+--   wrote-early, wrote-job     the text of a job, by its own checks or by open's
+--   listed-fits, listed-never  an accepted listing is within its room; 9,216 bytes are always enough
 --   listing-same               two sheets that hold it have one listing
 --   one-listing                each job comes to exactly one text
 -- Assumes nothing.
@@ -14,7 +16,7 @@ use mathlib.Core.Path.{_≡_, refl, sym, ap, ap₂, subst, _∙_}
 use mathlib.Core.Bool.{Bool, true, false, not, _||_}
 use mathlib.Core.List.{List, [], _∷_, _++_}
 use lib.Dec.{ltb, eqb}
-use lib.ListN.{length, getD, take, drop, length-append}
+use lib.ListN.{length, take, drop, length-append}
 use lib.Seq.{getD-take, length-take-le, take-at}
 use borrow.Author.Tests.{le-ltb, lt-ltb, ltb-false, eqb-true, not-false}
 use Rattle.algebra.specs.Sums.{sumTo, sumTo-bound, sumTo-ext, sumTo-suc, sumTo-mono}
@@ -26,15 +28,15 @@ use Rattle.numbers.specs.declared.refusal.Verdict.the-variants.{Pass, Refuse}
 use Rattle.numbers.proofs.RefusalsLaws.{after-pass, after-refuse, pass-parts, take-check, skip-check, none-judged, pass-check, neither, inside, answer-refused}
 use Rattle.numbers.proofs.WordsLaws.{tabulate-ext, length-tabulate}
 use Rattle.pair.specs.Pair.{Leaves}
-use Rattle.sheet.specs.Layout.{modulus, degree, width, terms, count, root, power, factor, codegree, factorsFrom, cofactorsFrom, end}
-use Rattle.sheet.specs.Sheet.{Given, Sound, Holds}
+use Rattle.sheet.specs.Layout.{modulus, degree, width, terms, count, root, power, factor, codegree, factorsFrom, end}
+use Rattle.sheet.specs.Sheet.{Given, Holds}
 use Rattle.sheet.proofs.RegionsLaws.{in-rows}
 use Rattle.sheet.proofs.SoundTestLaws.{sound-test}
 use Rattle.sheet.proofs.UniqueLaws.{holds-unique}
 use Rattle.lift.specs.Extend.{extendVerdict, ExtendDone, Extended}
 use Rattle.lift.proofs.ExtendingLaws.{extend-holds}
 use Rattle.open.specs.Open.{needed, openChecks, openVerdict, OpenDone, Opened, powersOf, orNil}
-use Rattle.open.proofs.OpeningLaws.{open-ready, OneSheet, sheet-exists}
+use Rattle.open.proofs.OpeningLaws.{open-ready, sheet-exists}
 use Rattle.listing.specs.Text.{joinTo, rowLine, rowLines, rootLine, headLine, factorText, listingText, refusedText, Listable, Puts}
 use Rattle.listing.proofs.TextLaws.{puts-as}
 use Rattle.listing.proofs.SheetTextLaws.{listable}

@@ -1,20 +1,20 @@
 -- Laws of a sheet's text: where its rows stand, that they have room, and the loops over rows and factors.
 -- Assumes nothing.
-use Prim.Native.Nat.{ℕ, zero, suc, _+_, _-_, _*_, _≤_, _<_}
+use Prim.Native.Nat.{ℕ, suc, _+_, _-_, _*_, _≤_, _<_}
 use native.Mathlib.Nat.{mul-le-mul, suc-mul, add-mul}
 use native.Mathlib.Numerals.{add-one}
 use native.Mathlib.Omega.{arith}
 use mathlib.Core.Path.{_≡_, refl, sym, ap, subst, _∙_, fun-ext}
-use mathlib.Core.List.{List, [], _∷_, _++_}
-use lib.ListN.{length, getD, take, drop, length-drop}
+use mathlib.Core.List.{List, _++_}
+use lib.ListN.{length, take, drop, length-drop}
 use lib.Seq.{ext-getD, getD-take, getD-drop, length-take-le}
-use Rattle.algebra.specs.Sums.{sumTo, sumTo-zero, sumTo-suc, sumTo-mono}
+use Rattle.algebra.specs.Sums.{sumTo, sumTo-suc, sumTo-mono}
 use Rattle.numbers.specs.Words.{word, tabulate}
-use Rattle.numbers.proofs.WordsLaws.{length-tabulate, word-tabulate, tabulate-ext}
-use Rattle.sheet.specs.Layout.{rowsAt, degree, width, count, root, power, factor, factorsFrom, cofactorsFrom}
+use Rattle.numbers.proofs.WordsLaws.{length-tabulate, word-tabulate}
+use Rattle.sheet.specs.Layout.{rowsAt, degree, width, count, root, power, factor, factorsFrom}
 use Rattle.sheet.specs.Sheet.{Sound, rowsStart}
 use Rattle.sheet.proofs.ReadingLaws.{count-sum}
-use Rattle.listing.specs.Text.{Puts, Listable, joinTo, rowLine, rowLines, rootLine, factorText, headLine, listingText}
+use Rattle.listing.specs.Text.{Puts, Listable, joinTo, rowLine, rowLines, rootLine, factorText}
 use Rattle.listing.proofs.TextLaws.{puts-none, puts-then, puts-as, join-next}
 
 -- a row where it stands

@@ -1,12 +1,12 @@
 -- Laws of putting text into a buffer: nothing, one byte more, one text after another; and of texts that a loop puts piece by piece.
 -- Assumes nothing.
-use Prim.Native.Nat.{ℕ, zero, suc, _+_, _-_, _*_, _≤_, _<_}
+use Prim.Native.Nat.{ℕ, suc, _+_, _-_, _*_, _≤_, _<_}
 use native.Mathlib.Nat.{add-zero}
 use native.Mathlib.Numerals.{add-one}
 use native.Mathlib.Omega.{arith}
 use mathlib.Core.Path.{_≡_, refl, sym, ap, subst, _∙_}
 use mathlib.Core.List.{List, [], _∷_, _++_, append-assoc, append-nil}
-use lib.ListN.{length, getD, take, drop, set, length-append, length-set, take-append-drop}
+use lib.ListN.{length, take, drop, set, length-append, length-set, take-append-drop}
 use lib.Seq.{set-split, take-at, drop-at, drop-drop, take-suc, take-all, length-take-le}
 use Rattle.numbers.specs.Words.{word}
 use Rattle.numbers.proofs.WordsLaws.{from, from-is, length-from}

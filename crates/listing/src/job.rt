@@ -3,7 +3,7 @@ use numbers::judge::check_modulus;
 use numbers::refusal::Verdict;
 use numbers::refusal::refuse;
 ghost use mathlib.Core.Path.{_≡_};
-ghost use Prim.Native.Nat.{ℕ, _+_, _*_, _≤_, _<_};
+ghost use Prim.Native.Nat.{_+_, _*_, _≤_, _<_};
 ghost use lib.ListN.{length};
 ghost use Rattle.numbers.specs.Refusals.{judge};
 ghost use Rattle.listing.specs.Job.{«half», halves, placeChecks, sizeChecks, jobChecks};

@@ -3,12 +3,11 @@ use numbers::refusal::Answer;
 use numbers::refusal::Refusal;
 use numbers::refusal::Verdict;
 ghost use mathlib.Core.Path.{_≡_};
-ghost use Prim.Native.Nat.{ℕ, _≤_};
+ghost use Prim.Native.Nat.{_≤_};
 ghost use lib.ListN.{length};
 ghost use Rattle.numbers.specs.Words.{over};
 ghost use Rattle.numbers.specs.Refusals.{judge, outcome, result, written};
 ghost use Rattle.numbers.specs.declared.refusal.Verdict.the-variants.{Pass};
-ghost use Rattle.sheet.specs.Sheet.{Given};
 ghost use Rattle.listing.specs.Job.{jobChecks, jobGiven, listVerdict};
 ghost use Rattle.listing.specs.Listing.{Wrote, WroteGiven, roomVerdict, Listed};
 

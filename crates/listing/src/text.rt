@@ -1,7 +1,6 @@
 // Putting the listing's text into a buffer, piece after piece: each function is given the place to begin at and answers the place after what it put.
 use sheet::layout;
-ghost use mathlib.Core.Path.{_≡_};
-ghost use Prim.Native.Nat.{ℕ, _+_, _*_, _≤_, _<_};
+ghost use Prim.Native.Nat.{_+_, _*_, _≤_, _<_};
 ghost use lib.ListN.{length};
 ghost use Rattle.sheet.specs.Layout.{rowsAt, count, power};
 ghost use Rattle.listing.specs.Decimal.{digits};

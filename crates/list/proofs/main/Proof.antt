@@ -1,6 +1,6 @@
 -- `list::main`: the bytes read and the text printed are within their arrays.
 -- Assumes nothing.
-use mathlib.Core.Path.{_≡_, refl, sym}
+use mathlib.Core.Path.{refl, sym}
 use lib.Seq.{length-take-le}
 use native.Mathlib.Omega.{arith}
 use Rattle.listing.proofs.ListingLaws.{listed-fits}

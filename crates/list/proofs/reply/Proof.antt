@@ -1,6 +1,6 @@
 -- `list::reply` meets its contract: what `listing::list` answers; it has room.
 -- Assumes nothing.
-use mathlib.Core.Path.{_≡_, ap}
+use mathlib.Core.Path.{ap}
 use Rattle.numbers.specs.Refusals.{outcome}
 use Rattle.listing.proofs.ListingLaws.{listed-never, listed-as}
 use borrow.Author.Needs.{needs}

@@ -1,7 +1,6 @@
 -- `listing::list` meets its contract: the text of the job, handed over.
 -- Assumes nothing.
-use mathlib.Core.Path.{_≡_, refl, sym}
-use native.Mathlib.Omega.{arith}
+use mathlib.Core.Path.{refl, sym}
 use lib.Seq.{length-take-le}
 use Rattle.listing.proofs.ListingLaws.{first-fits, listed-all}
 use borrow.Author.Needs.{needs}

@@ -1,11 +1,9 @@
 -- `listing::write_checked` meets its contract: the words of the job are loaded, and what they give is written.
 -- Assumes nothing.
-use mathlib.Core.Path.{_≡_, refl, sym, ap, ap₂, _∙_}
+use mathlib.Core.Path.{_≡_, refl, sym, ap₂}
 use Prim.Native.Nat.{ℕ, _+_, _*_}
 use native.Mathlib.Omega.{arith}
-use lib.ListN.{length}
 use lib.Seq.{length-take-le}
-use Rattle.sheet.specs.Sheet.{Given}
 use Rattle.listing.specs.Job.{half}
 use Rattle.listing.proofs.JobLaws.{words-small}
 use Rattle.listing.proofs.ListingLaws.{job-limits, load-fits, loaded-long, loaded-first, wrote-job}

@@ -1,8 +1,6 @@
 -- `listing::write_given` meets its contract: open, and its refusal, or extend to N and the listing.
 -- Assumes nothing.
-use mathlib.Core.Path.{_≡_, refl, ap}
-use native.Mathlib.Omega.{arith}
-use lib.ListN.{length}
+use mathlib.Core.Path.{refl, ap}
 use Rattle.numbers.specs.Refusals.{outcome}
 use Rattle.sheet.specs.Sheet.{Given}
 use Rattle.listing.proofs.ListingLaws.{wrote-refused, given-listable, wrote-listed}

@@ -1,6 +1,6 @@
 -- `listing::write_text` meets its contract: the job's own checks, and then what it gives.
 -- Assumes nothing.
-use mathlib.Core.Path.{_≡_, sym, _∙_}
+use mathlib.Core.Path.{sym, _∙_}
 use Rattle.listing.proofs.ListingLaws.{wrote-early}
 use borrow.Author.Needs.{needs}
 use Rattle.listing.proofs.write_text.Statement.{statement}

@@ -1,7 +1,6 @@
 -- `listing::job::check_places` meets its contract: at each `return` the test that led there says which part of row 5 it is.
 -- Assumes nothing.
 use mathlib.Core.Path.{_∙_, sym}
-use Prim.Native.Nat.{_+_}
 use native.Mathlib.Omega.{arith}
 use Rattle.listing.proofs.JobLaws.{places-many, places-roots, places-rows, places-long, places-pass, words-small}
 use borrow.Author.Needs.{needs}

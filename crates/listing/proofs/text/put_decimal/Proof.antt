@@ -1,7 +1,7 @@
 -- `listing::text::put_decimal` meets its contract: the digits found so far stand after those of what is left.
 -- Assumes nothing.
 use mathlib.Core.Path.{refl, ap}
-use Prim.Native.Nat.{_≤_, _<_, _-_}
+use Prim.Native.Nat.{_<_, _-_}
 use native.Mathlib.Omega.{arith}
 use lib.ListN.{length, length-set}
 use Rattle.listing.specs.Decimal.{digit}

@@ -1,6 +1,6 @@
 -- `listing::text::put_factor` meets its contract: its first line, and its rows.
 -- Assumes nothing.
-use Prim.Native.Nat.{ℕ, _+_, _*_, _≤_, _<_}
+use Prim.Native.Nat.{ℕ, _*_}
 use mathlib.Core.Path.{ap}
 use native.Mathlib.Omega.{arith}
 use Rattle.sheet.specs.Layout.{width}

@@ -1,6 +1,5 @@
 -- `listing::text::put_factors` meets its contract: factor after factor.
 -- Assumes nothing.
-use mathlib.Core.Path.{_≡_, refl}
 use Prim.Native.Nat.{_+_, _-_, _*_, _≤_}
 use native.Mathlib.Omega.{arith}
 use Rattle.algebra.specs.Sums.{sumTo}

@@ -1,0 +1,41 @@
+/* PARI's Flx: product and inverse modulo X^n. */
+#include "others.h"
+
+#include <pari/pari.h>
+
+static GEN g, h, result;
+static long columns;
+static ulong modulus;
+static pari_sp top;
+
+static GEN polynomial(const uint32_t *words) {
+    GEN f = cgetg(columns + 2, t_VECSMALL);
+    f[1] = 0;
+    for (long t = 0; t < columns; t++) f[t + 2] = words[t];
+    return Flx_renormalize(f, columns + 2);
+}
+
+static void load(uint32_t p, uint32_t n, const uint32_t *first, const uint32_t *second) {
+    if (!top) pari_init(64000000, 0);
+    columns = n;
+    modulus = p;
+    g = polynomial(first);
+    h = polynomial(second);
+    top = avma;
+}
+
+static void product(void) {
+    set_avma(top);
+    result = Flxn_mul(g, h, columns, modulus);
+}
+
+static void inverse(void) {
+    set_avma(top);
+    result = Flxn_inv(g, columns, modulus);
+}
+
+static void give(uint32_t *out) {
+    for (long t = 0; t < columns; t++) out[t] = t + 2 < lg(result) ? (uint32_t)result[t + 2] : 0;
+}
+
+const struct other pari_series = {"PARI", load, product, inverse, give};

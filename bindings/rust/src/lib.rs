@@ -1,0 +1,40 @@
+//! Weierstrass pairs and Hensel factors over F_p\[\[X\]\], by proved code: for every input the engine answers what its specification says, or refuses by
+//! a numbered rule and changes nothing.
+//!
+//! A series is `n` words, word `t` the coefficient of X^t. A row polynomial of degree bound `d` is `d + 1` series, row `j` the coefficient of Y^j,
+//! stored row after row. Words are below the prime modulus `p`, which is at most 65,535; `d` is at most 32 and `n` at most 256.
+//!
+//! [`Sheet`] owns its words; the modules' functions work in slices that the caller lends, allocate nothing, and leave words past the answer as they were.
+//!
+//! ```
+//! use bopkheul::Sheet;
+//!
+//! // Y² − 1 − X modulo 7: at X = 0 its roots are 1 and 6. Three terms.
+//! let f = [6, 6, 0, /* Y */ 0, 0, 0, /* Y² */ 1, 0, 0];
+//! let mut sheet = Sheet::open(7, 2, 3, &f, &[1, 6])?;
+//! sheet.extend(3)?;
+//!
+//! let first = sheet.factor(0)?;
+//! assert_eq!((first.root, first.power), (1, 1));
+//! assert_eq!(first.row(0), [6, 3, 1]); // Y + 6 + 3X + X²
+//!
+//! let refusal = sheet.extend(4).unwrap_err();
+//! assert_eq!(refusal.to_string(), "refused 14: the terms wanted are none, or more than there are columns");
+//! # Ok::<(), bopkheul::Refusal>(())
+//! ```
+
+mod raw;
+mod refusal;
+
+pub mod listing;
+pub mod numbers;
+pub mod pair;
+pub mod rows;
+pub mod series;
+pub mod sheet;
+
+pub use refusal::{Kind, Refusal};
+pub use sheet::{Factor, Sheet};
+
+/// What every operation answers: a number that its documentation names, or why it did nothing.
+pub type Answer = Result<u32, Refusal>;

@@ -1,0 +1,29 @@
+//! Series of `n` words. The answer is `n`, the number of words written to the front of `out`.
+
+use crate::raw::{answer, bk_series_difference, bk_series_inverse, bk_series_product, bk_series_quotient, bk_series_sum};
+use crate::Answer;
+
+/// g + h.
+pub fn sum(p: u32, n: u32, g: &[u32], h: &[u32], out: &mut [u32]) -> Answer {
+    answer(unsafe { bk_series_sum(p, n, g.as_ptr(), g.len(), h.as_ptr(), h.len(), out.as_mut_ptr(), out.len()) })
+}
+
+/// g − h.
+pub fn difference(p: u32, n: u32, g: &[u32], h: &[u32], out: &mut [u32]) -> Answer {
+    answer(unsafe { bk_series_difference(p, n, g.as_ptr(), g.len(), h.as_ptr(), h.len(), out.as_mut_ptr(), out.len()) })
+}
+
+/// g · h.
+pub fn product(p: u32, n: u32, g: &[u32], h: &[u32], out: &mut [u32]) -> Answer {
+    answer(unsafe { bk_series_product(p, n, g.as_ptr(), g.len(), h.as_ptr(), h.len(), out.as_mut_ptr(), out.len()) })
+}
+
+/// g / h, where h is not 0 at X = 0.
+pub fn quotient(p: u32, n: u32, g: &[u32], h: &[u32], out: &mut [u32]) -> Answer {
+    answer(unsafe { bk_series_quotient(p, n, g.as_ptr(), g.len(), h.as_ptr(), h.len(), out.as_mut_ptr(), out.len()) })
+}
+
+/// 1 / g, where g is not 0 at X = 0.
+pub fn inverse(p: u32, n: u32, g: &[u32], out: &mut [u32]) -> Answer {
+    answer(unsafe { bk_series_inverse(p, n, g.as_ptr(), g.len(), out.as_mut_ptr(), out.len()) })
+}

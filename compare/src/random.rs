@@ -1,0 +1,101 @@
+//! Seeded numbers (splitmix64), and the choices that cases are made of.
+
+pub struct Random(u64);
+
+/// Small primes, so that powers pass p, and the largest one allowed.
+const PRIMES: [u32; 7] = [2, 3, 5, 7, 13, 251, 65521];
+
+impl Random {
+    pub fn new(seed: u64) -> Random {
+        Random(seed)
+    }
+
+    pub fn next(&mut self) -> u64 {
+        self.0 = self.0.wrapping_add(0x9e37_79b9_7f4a_7c15);
+        let mut z = self.0;
+        z = (z ^ (z >> 30)).wrapping_mul(0xbf58_476d_1ce4_e5b9);
+        z = (z ^ (z >> 27)).wrapping_mul(0x94d0_49bb_1331_11eb);
+        z ^ (z >> 31)
+    }
+
+    pub fn below(&mut self, bound: u32) -> u32 {
+        (self.next() % bound as u64) as u32
+    }
+
+    pub fn within(&mut self, least: u32, most: u32) -> u32 {
+        least + self.below(most - least + 1)
+    }
+
+    /// True once in so many times.
+    pub fn once_in(&mut self, times: u32) -> bool {
+        self.below(times) == 0
+    }
+
+    pub fn pick<T: Copy>(&mut self, from: &[T]) -> T {
+        from[self.below(from.len() as u32) as usize]
+    }
+
+    pub fn prime(&mut self) -> u32 {
+        self.pick(&PRIMES)
+    }
+
+    /// Words below p; now and then mostly zeros, so that factors end early.
+    pub fn words(&mut self, p: u32, count: usize) -> Vec<u32> {
+        let sparse = self.once_in(4);
+        (0..count).map(|_| if sparse && !self.once_in(4) { 0 } else { self.below(p) }).collect()
+    }
+
+    /// What an output holds before a call: any words.
+    pub fn junk(&mut self, count: usize) -> Vec<u32> {
+        (0..count).map(|_| self.next() as u32).collect()
+    }
+
+    /// A number of columns: mostly few, now and then up to the limit and one past it.
+    pub fn columns(&mut self) -> u32 {
+        match self.below(24) {
+            0 => self.pick(&[255, 256, 256, 257]),
+            1..=3 => self.within(9, 64),
+            _ => self.within(1, 8),
+        }
+    }
+
+    /// A degree bound: mostly small, now and then up to the limit and one past it.
+    pub fn degree(&mut self) -> u32 {
+        match self.below(24) {
+            0 => self.pick(&[31, 32, 32, 33]),
+            1..=3 => self.within(6, 20),
+            _ => self.within(0, 5),
+        }
+    }
+
+    /// The length of an output that needs so many words: enough, a few more, or too short.
+    pub fn room(&mut self, needed: usize) -> usize {
+        match self.below(8) {
+            0 => needed.saturating_sub(1),
+            1 => self.below(needed as u32 + 1) as usize,
+            2..=4 => needed,
+            _ => needed + self.within(1, 5) as usize,
+        }
+    }
+
+    /// Faults to put into a good call, of a list of them: none, one, or several at once.
+    pub fn faults<T: Copy>(&mut self, of: &[T]) -> Vec<T> {
+        let count = self.pick(&[0, 0, 0, 0, 1, 1, 1, 1, 2, 2, 3, 4]);
+        (0..count).map(|_| self.pick(of)).collect()
+    }
+
+    /// A modulus that row 1 or row 2 refuses.
+    pub fn bad_modulus(&mut self) -> u32 {
+        self.pick(&[0, 1, 65536, 65537, u32::MAX, 4, 9, 91, 255, 65533, 65535, 64009])
+    }
+
+    /// A word that is p or more, or, for the least of them, just below.
+    pub fn edge_word(&mut self, p: u32) -> u32 {
+        let next = p.wrapping_add(1);
+        self.pick(&[p, p, next, u32::MAX, p.wrapping_sub(1)])
+    }
+
+    pub fn huge(&mut self) -> u32 {
+        self.pick(&[1 << 31, u32::MAX, 65536, 1 << 16, u32::MAX - 1])
+    }
+}

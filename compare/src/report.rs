@@ -1,0 +1,182 @@
+//! Counts what was compared, and stops the program at the first difference.
+
+use std::collections::BTreeMap;
+use std::fmt::Debug;
+use std::process::exit;
+
+/// An answer, or a refusal's number and detail.
+pub type Outcome = Result<u32, (u32, u32)>;
+
+pub fn engine(answer: bopkheul::Answer) -> Outcome {
+    answer.map_err(|r| (r.number, r.detail))
+}
+
+pub fn second(answer: second::Answer) -> Outcome {
+    answer.map_err(|r| (r.number, r.detail))
+}
+
+/// What a call of both came to.
+pub struct Called<W> {
+    pub outcome: Outcome,
+    /// The words lent, after the call.
+    pub words: Vec<W>,
+}
+
+/// An operation, and the refusals that it can give: each must have come up.
+pub struct Operation {
+    pub name: &'static str,
+    refusals: &'static [u32],
+}
+
+const fn operation(name: &'static str, refusals: &'static [u32]) -> Operation {
+    Operation { name, refusals }
+}
+
+const NUMBER: &[u32] = &[1, 2, 6];
+const SERIES: &[u32] = &[1, 2, 4, 5, 6, 10];
+const DIVIDE: &[u32] = &[1, 2, 4, 5, 6, 10, 12];
+const ROWS: &[u32] = &[1, 2, 3, 4, 5, 6, 10];
+
+/// Not a call of its own: what the lines say that `list` writes, which is a refusal's number or a listing.
+pub const LINE: &str = "list's line";
+
+pub const OPERATIONS: [Operation; 22] = [
+    operation("sum", NUMBER),
+    operation("difference", NUMBER),
+    operation("product", NUMBER),
+    operation("inverse", &[1, 2, 6, 12]),
+    operation("series sum", SERIES),
+    operation("series difference", SERIES),
+    operation("series product", SERIES),
+    operation("series quotient", DIVIDE),
+    operation("series inverse", DIVIDE),
+    operation("rows sum", ROWS),
+    operation("rows difference", ROWS),
+    operation("rows product", ROWS),
+    operation("rows shift", ROWS),
+    operation("pair", &[1, 2, 3, 4, 5, 6, 10, 11, 14]),
+    operation("pair continue", &[1, 2, 3, 4, 5, 6, 10, 11, 13, 14, 15]),
+    operation("sheet open", &[1, 2, 3, 4, 5, 6, 7, 8, 9, 10]),
+    operation("sheet extend", &[13, 14, 15]),
+    operation("sheet test", &[]),
+    operation("sheet factor", &[10, 13, 16]),
+    operation("sheet replay", &[5, 10]),
+    operation("list", &[10]),
+    operation(LINE, &[1, 2, 3, 4, 5, 6, 7, 8, 9]),
+];
+
+/// Kinds of inputs: each must have come up.
+pub const KINDS: [&str; 31] = [
+    "document 01's examples",
+    "every modulus from 0 to 66,000",
+    "a power of p or more",
+    "32 rows or 256 columns",
+    "several faults at once",
+    "pair: order 0",
+    "pair: order between",
+    "pair: order D",
+    "pair: worked in several goes",
+    "pair: f changed in a later column only",
+    "pair: a word below h changed",
+    "pair: a word from h up changed",
+    "sheet: worked in several goes",
+    "sheet: only its first words lent",
+    "sheet: a list of calls",
+    "sheet: header word changed",
+    "sheet: header word changed, still sound",
+    "sheet: root changed",
+    "sheet: power changed",
+    "sheet: polynomial changed below k",
+    "sheet: polynomial changed from k up",
+    "sheet: polynomial changed from k up, still sound",
+    "sheet: factor changed below k",
+    "sheet: factor changed from k up",
+    "sheet: cofactor changed below k",
+    "sheet: cofactor changed from k up",
+    "sheet: a word past the end changed",
+    "sheet: cut short",
+    "sheet: shortened to fewer terms",
+    "sheet: k raised over columns of zeros",
+    "sheet: a factor's part as a row polynomial",
+];
+
+#[derive(Default)]
+pub struct Report {
+    outcomes: BTreeMap<(&'static str, u32), u64>,
+    kinds: BTreeMap<&'static str, u64>,
+}
+
+impl Report {
+    pub fn kind(&mut self, kind: &'static str) {
+        assert!(KINDS.contains(&kind), "{kind} is not listed");
+        *self.kinds.entry(kind).or_default() += 1;
+    }
+
+    pub fn outcome(&mut self, operation: &'static str, number: u32) {
+        *self.outcomes.entry((operation, number)).or_default() += 1;
+    }
+
+    /// One call of both: the outcome and every word lent must be the same, and a refusal must leave the words as they were.
+    pub fn call<W: Copy + Eq + Debug>(
+        &mut self,
+        operation: &'static str,
+        input: impl Fn() -> String,
+        lent: &[W],
+        engine: impl FnOnce(&mut [W]) -> Outcome,
+        second: impl FnOnce(&mut [W]) -> Outcome,
+    ) -> Called<W> {
+        let (mut mine, mut other) = (lent.to_vec(), lent.to_vec());
+        let (answer, expected) = (engine(&mut mine), second(&mut other));
+        let number = answer.err().map_or(0, |refusal| refusal.0);
+        self.outcome(operation, number);
+        if answer != expected {
+            differ(operation, &input(), lent, &format!("the engine answers {answer:?}, the second implementation {expected:?}"));
+        }
+        if let Some(i) = (0..lent.len()).find(|&i| mine[i] != other[i]) {
+            differ(
+                operation,
+                &input(),
+                lent,
+                &format!("word {i} after the call: the engine has {:?}, the second implementation {:?}", mine[i], other[i]),
+            );
+        }
+        if answer.is_err() && mine != lent {
+            differ(operation, &input(), lent, "a refused call wrote");
+        }
+        Called { outcome: answer, words: mine }
+    }
+
+    /// A fact that must hold besides.
+    pub fn expect(&self, holds: bool, what: &str) {
+        if !holds {
+            println!("NOT SO: {what}");
+            exit(1);
+        }
+    }
+
+    /// Prints the tables; false where a cell that has to be there is empty.
+    pub fn print(&self) -> bool {
+        println!("Cases compared, by operation: accepted, then by refusal number.\n");
+        let mut complete = true;
+        for Operation { name, refusals } in &OPERATIONS {
+            let count = |number: u32| self.outcomes.get(&(*name, number)).copied().unwrap_or(0);
+            let cells: Vec<String> = refusals.iter().map(|&n| format!("{n}: {}", count(n))).collect();
+            println!("  {name:<18} {:>8}   {}", count(0), cells.join("  "));
+            complete &= count(0) > 0 && refusals.iter().all(|&n| count(n) > 0);
+        }
+        println!("\nCases of each kind among them:\n");
+        for kind in KINDS {
+            let count = self.kinds.get(kind).copied().unwrap_or(0);
+            println!("  {kind:<50} {count:>8}");
+            complete &= count > 0;
+        }
+        let calls = self.outcomes.iter().filter(|((name, _), _)| *name != LINE);
+        println!("\n{} calls compared, no difference.", calls.map(|(_, count)| count).sum::<u64>());
+        complete
+    }
+}
+
+fn differ<W: Debug>(operation: &str, input: &str, lent: &[W], how: &str) -> ! {
+    println!("DIFFERENCE in {operation}: {how}\n  given: {input}\n  lent: {lent:?}");
+    exit(1)
+}

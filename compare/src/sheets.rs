@@ -1,0 +1,321 @@
+//! Factor sheets: opened, worked on in goes, read, and damaged word by word.
+
+use crate::polynomials::{self, Given};
+use crate::random::Random;
+use crate::report::{engine, second, Called, Report};
+use bopkheul::{rows as engine_rows, sheet as e};
+use second::{rows as second_rows, sheet as s};
+
+#[derive(Clone, Copy)]
+enum Fault {
+    Modulus,
+    Degree,
+    Terms,
+    Length,
+    Word,
+    Root,
+    Monic,
+    Roots,
+    Split,
+}
+
+const FAULTS: [Fault; 9] =
+    [Fault::Modulus, Fault::Degree, Fault::Terms, Fault::Length, Fault::Word, Fault::Root, Fault::Monic, Fault::Roots, Fault::Split];
+
+fn spoil_roots(random: &mut Random, roots: &mut Vec<u32>, d: u32) {
+    match random.below(4) {
+        0 => roots.clear(),
+        1 => roots.reverse(),
+        2 => roots.extend_from_within(..1.min(roots.len())),
+        _ => *roots = (0..=d.min(99)).collect(),
+    }
+}
+
+fn spoil(random: &mut Random, given: &mut Given, fault: Fault) {
+    let any = random.next() as usize;
+    match fault {
+        Fault::Modulus => given.p = random.bad_modulus(),
+        Fault::Degree => given.d = random.pick(&[0, 33, u32::MAX, 1 << 31]),
+        Fault::Terms => given.n = random.pick(&[0, 257, u32::MAX]),
+        Fault::Length if random.once_in(2) => given.f.push(0),
+        Fault::Length => drop(given.f.pop()),
+        Fault::Word if !given.f.is_empty() => {
+            let at = any % given.f.len();
+            given.f[at] = random.edge_word(given.p);
+        }
+        Fault::Root if !given.roots.is_empty() => {
+            let at = any % given.roots.len();
+            given.roots[at] = random.edge_word(given.p);
+        }
+        Fault::Monic if !given.f.is_empty() => {
+            let top = given.f.len().saturating_sub(given.n.clamp(1, 256) as usize);
+            let at = top + any % (given.f.len() - top);
+            given.f[at] = random.below(given.p.clamp(1, 4));
+        }
+        Fault::Roots => spoil_roots(random, &mut given.roots, given.d),
+        Fault::Split if random.once_in(2) => drop(given.roots.pop()),
+        Fault::Split if !given.f.is_empty() => given.f[0] = random.below(given.p.max(1)),
+        _ => {}
+    }
+}
+
+fn open(report: &mut Report, given: &Given, out: &[u32]) -> Called<u32> {
+    let Given { p, d, n, f, roots } = given;
+    let (p, d, n) = (*p, *d, *n);
+    let input = || format!("p {p} d {d} n {n} f {f:?} roots {roots:?}");
+    report.call("sheet open", input, out, |o| engine(e::open(p, d, n, f, roots, o)), |o| second(s::open(p, d, n, f, roots, o)))
+}
+
+fn extend(report: &mut Report, sheet: &[u32], w: u32) -> Called<u32> {
+    report.call("sheet extend", || format!("w {w}"), sheet, |o| engine(e::extend(o, w)), |o| second(s::extend(o, w)))
+}
+
+fn test(report: &mut Report, sheet: &[u32]) -> bool {
+    let called = report.call("sheet test", String::new, sheet, |o| Ok(e::test(o) as u32), |o| Ok(s::test(o) as u32));
+    called.outcome == Ok(1)
+}
+
+/// Factor i, into outputs of 0 to 5 words.
+fn read(random: &mut Random, report: &mut Report, sheet: &[u32], i: u32) {
+    let room = random.pick(&[0, 3, 4, 4, 5]);
+    let out = random.junk(room);
+    report.call("sheet factor", || format!("i {i} sheet {sheet:?}"), &out, |o| engine(e::factor(sheet, i, o)), |o| second(s::factor(sheet, i, o)));
+}
+
+/// Enough junk for the sheet, and some words more.
+fn opened(random: &mut Random, report: &mut Report, given: &Given) -> Vec<u32> {
+    let (_, total) = open(report, given, &[]).outcome.expect_err("no sheet fits 0 words");
+    let more = random.below(4);
+    open(report, given, &random.junk((total + more) as usize)).words
+}
+
+fn opening(random: &mut Random, report: &mut Report) {
+    let (p, d, n) = (random.prime(), random.degree().max(1), random.columns());
+    let mut given = polynomials::any(random, report, p, d, n);
+    let faults = random.faults(&FAULTS);
+    faults.iter().for_each(|&fault| spoil(random, &mut given, fault));
+    if faults.len() > 1 {
+        report.kind("several faults at once");
+    }
+    let needed = match open(report, &given, &[]).outcome {
+        Err((10, words)) => words as usize,
+        _ => 64,
+    };
+    let room = random.room(needed);
+    open(report, &given, &random.junk(room));
+}
+
+/// A list of calls: each is lent the whole sheet, or only its first words.
+#[derive(Clone, Debug)]
+struct Calls {
+    lent: Vec<u32>,
+    w: Vec<u32>,
+}
+
+fn calls(random: &mut Random, sheet: &[u32]) -> Calls {
+    let (total, n, length) = (sheet[9], sheet[2], sheet.len() as u32);
+    let count = random.below(7) as usize;
+    let lent = (0..count).map(|_| random.pick(&[length, length, length, total, total - 1, total / 2, 9, 0])).collect();
+    let w = (0..count).map(|_| if random.once_in(6) { random.pick(&[0, n + 1, u32::MAX]) } else { random.within(1, n) }).collect();
+    Calls { lent, w }
+}
+
+/// Lists of unlike lengths, or a call that lends more words than there are.
+fn spoil_calls(random: &mut Random, calls: &mut Calls, length: u32) {
+    match random.below(3) {
+        0 => drop(calls.w.pop()),
+        1 => calls.lent.push(0),
+        _ => calls.lent.iter_mut().take(1).for_each(|words| *words = random.pick(&[length + 1, u32::MAX])),
+    }
+}
+
+/// The calls one by one, then the same list by one call, then the plain count: all must agree.
+fn several_goes(random: &mut Random, report: &mut Report, fresh: &[u32]) -> Vec<u32> {
+    let calls = calls(random, fresh);
+    let mut sheet = fresh.to_vec();
+    let mut answers = Vec::new();
+    for (&words, &to) in calls.lent.iter().zip(&calls.w) {
+        if (words as usize) < sheet.len() {
+            report.kind("sheet: only its first words lent");
+        }
+        let called = extend(report, &sheet[..words as usize], to);
+        sheet[..words as usize].copy_from_slice(&called.words);
+        answers.extend(called.outcome.map_or_else(|(number, detail)| [number, detail], |terms| [0, terms]));
+    }
+    let (expected, terms) = s::plain_count(fresh[9], fresh[2], &calls.lent, &calls.w);
+    report.expect(answers == expected && sheet[3] == terms, &format!("the plain count is that of {calls:?} on {fresh:?}"));
+    replay(random, report, fresh, &calls, &sheet, &answers);
+    report.kind("sheet: worked in several goes");
+    sheet
+}
+
+fn replay(random: &mut Random, report: &mut Report, fresh: &[u32], calls: &Calls, after: &[u32], answers: &[u32]) {
+    let mut calls = calls.clone();
+    if random.once_in(8) {
+        spoil_calls(random, &mut calls, fresh.len() as u32);
+    }
+    let Calls { lent, w } = &calls;
+    let room = random.room(answers.len());
+    let out = random.junk(room);
+    let (mut mine, mut other) = (fresh.to_vec(), fresh.to_vec());
+    let called = report.call(
+        "sheet replay",
+        || format!("{calls:?} on {fresh:?}"),
+        &out,
+        |o| engine(e::replay(&mut mine, lent, w, o)),
+        |o| second(s::replay(&mut other, lent, w, o)),
+    );
+    let left = if called.outcome.is_ok() { after } else { fresh };
+    report.expect(mine == left && other == left, &format!("{calls:?} by one call leave what they leave one by one, from {fresh:?}"));
+    if called.outcome.is_ok() {
+        report.expect(called.words[..answers.len()] == *answers, "replay's answers are those of the calls");
+        report.kind("sheet: a list of calls");
+    }
+}
+
+/// A factor's part, passed on to row operations where it stands.
+fn part(random: &mut Random, report: &mut Report, sheet: &[u32]) {
+    let mut found = [0; 4];
+    let i = random.below(sheet[4]);
+    e::factor(sheet, i, &mut found).expect("a sound sheet has its factors");
+    let [_, power, start, length] = found;
+    let rows = &sheet[start as usize..(start + length) as usize];
+    let (p, n, c) = (sheet[0], sheet[2], random.below(sheet[0]));
+    let out = random.junk(length as usize);
+    let input = || format!("p {p} d {} n {n} f {rows:?} c {c}", power - 1);
+    report.call(
+        "rows shift",
+        input,
+        &out,
+        |o| engine(engine_rows::shift(p, power - 1, n, rows, c, o)),
+        |o| second(second_rows::shift(p, power - 1, n, rows, c, o)),
+    );
+    report.kind("sheet: a factor's part as a row polynomial");
+}
+
+/// Where a word of a sheet stands.
+fn region(sheet: &[u32], at: usize) -> &'static str {
+    let [_, _, n, k, r, roots, polynomial, factors, cofactors, total] = sheet[..10] else { unreachable!("ten words") };
+    let at = at as u32;
+    let known = |from: u32| (at - from) % n < k;
+    match at {
+        _ if at < roots => "sheet: header word changed",
+        _ if at < roots + 2 * r => ["sheet: root changed", "sheet: power changed"][(at - roots) as usize % 2],
+        _ if at < factors => ["sheet: polynomial changed from k up", "sheet: polynomial changed below k"][known(polynomial) as usize],
+        _ if at < cofactors => ["sheet: factor changed from k up", "sheet: factor changed below k"][known(factors) as usize],
+        _ if at < total => ["sheet: cofactor changed from k up", "sheet: cofactor changed below k"][known(cofactors) as usize],
+        _ => "sheet: a word past the end changed",
+    }
+}
+
+/// A place in a region chosen first, so that small regions come up as often as large ones.
+fn place(random: &mut Random, sheet: &[u32]) -> usize {
+    let mut edges = vec![0];
+    edges.extend([sheet[5], sheet[6], sheet[7], sheet[8], sheet[9]].map(|edge| edge as usize));
+    edges.push(sheet.len());
+    loop {
+        let i = random.below(6) as usize;
+        if edges[i] < edges[i + 1] {
+            return random.within(edges[i] as u32, edges[i + 1] as u32 - 1) as usize;
+        }
+    }
+}
+
+fn judge_changed(random: &mut Random, report: &mut Report, changed: &[u32]) -> bool {
+    let sound = test(report, changed);
+    let w = random.below(changed.get(2).map_or(4, |n| n.wrapping_add(2)).max(1));
+    extend(report, changed, w);
+    let i = random.below(4);
+    read(random, report, changed, i);
+    sound
+}
+
+fn change_a_word(random: &mut Random, report: &mut Report, sheet: &[u32]) {
+    let mut changed = sheet.to_vec();
+    let at = place(random, sheet);
+    let (p, reduced) = (sheet[0], random.below(sheet[0]));
+    let old = changed[at];
+    changed[at] = random.pick(&[reduced, reduced, old.wrapping_add(1), old.wrapping_sub(1), 0, 1, p, old.wrapping_add(p), u32::MAX]);
+    if changed[at] == old {
+        return;
+    }
+    let region = region(sheet, at);
+    report.kind(region);
+    match (region, judge_changed(random, report, &changed)) {
+        ("sheet: header word changed", true) => report.kind("sheet: header word changed, still sound"),
+        ("sheet: polynomial changed from k up", true) => report.kind("sheet: polynomial changed from k up, still sound"),
+        _ => {}
+    }
+}
+
+fn cut_short(random: &mut Random, report: &mut Report, sheet: &[u32]) {
+    let total = sheet[9];
+    let length = random.pick(&[0, 9, 10, 11, 10 + 2 * sheet[4], total - 1, total / 2, total]);
+    judge_changed(random, report, &sheet[..length as usize]);
+    report.kind("sheet: cut short");
+}
+
+/// A sheet with fewer terms, its later columns cleared, is sound; without clearing, as a rule not.
+fn shorten(random: &mut Random, report: &mut Report, sheet: &[u32]) {
+    let (n, k, from, to) = (sheet[2] as usize, sheet[3], sheet[7] as usize, sheet[9] as usize);
+    let mut changed = sheet.to_vec();
+    let terms = random.within(1, k);
+    changed[3] = terms;
+    if !random.once_in(4) {
+        let rows = changed[from..to].chunks_mut(n);
+        rows.for_each(|row| row[terms as usize..].fill(0));
+    }
+    judge_changed(random, report, &changed);
+    report.kind("sheet: shortened to fewer terms");
+}
+
+/// Of Y^D every column past the first is 0, so that k may be raised by hand.
+fn raise(random: &mut Random, report: &mut Report) {
+    let (p, d, n) = (random.prime(), random.within(1, 5), random.within(2, 8));
+    let mut given = polynomials::with_roots(random, report, p, d, n, 1);
+    let width = n as usize;
+    for (j, row) in given.f.chunks_mut(width).enumerate() {
+        let spoiled = j == 0 && random.once_in(2);
+        row[1..].fill(0);
+        row[width - 1] = if spoiled { 1 } else { row[width - 1] };
+    }
+    let mut sheet = opened(random, report, &given);
+    sheet[3] = random.within(2, n);
+    judge_changed(random, report, &sheet);
+    report.kind("sheet: k raised over columns of zeros");
+}
+
+fn life_of_a_sheet(random: &mut Random, report: &mut Report, given: &Given, changes: usize) {
+    let fresh = opened(random, report, given);
+    let sound = test(report, &fresh);
+    report.expect(sound, &format!("an opened sheet is sound: {fresh:?}"));
+    let sheet = several_goes(random, report, &fresh);
+    (0..=sheet[4]).for_each(|i| read(random, report, &sheet, i));
+    part(random, report, &sheet);
+    for _ in 0..changes {
+        change_a_word(random, report, &sheet);
+    }
+    cut_short(random, report, &sheet);
+    shorten(random, report, &sheet);
+}
+
+/// The largest sheets: simple roots as many as there can be, and few roots of high powers.
+fn large(random: &mut Random, report: &mut Report) {
+    for (p, count) in [(65521, 32), (65521, 2), (251, 32), (251, 7), (13, 13), (7, 3), (3, 3), (2, 2), (2, 1)] {
+        let given = polynomials::with_roots(random, report, p, 32, 256, count);
+        life_of_a_sheet(random, report, &given, 8);
+        let at_once = opened(random, report, &given);
+        extend(report, &at_once, 256);
+    }
+}
+
+pub fn run(random: &mut Random, report: &mut Report) {
+    (0..12_000).for_each(|_| opening(random, report));
+    for _ in 0..3_000 {
+        let (p, d, n) = (random.prime(), random.degree().clamp(1, 12), random.columns().min(24));
+        let given = polynomials::any(random, report, p, d, n);
+        life_of_a_sheet(random, report, &given, 12);
+    }
+    (0..500).for_each(|_| raise(random, report));
+    large(random, report);
+}

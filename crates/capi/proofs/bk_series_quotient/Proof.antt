@@ -1,0 +1,22 @@
+-- `capi::bk_series_quotient` meets its contract.
+-- Assumes nothing.
+use Rattle.capi.specs.Packed.{packed}
+use mathlib.Core.Path.{ap, _∙_}
+use borrow.Author.Needs.{needs}
+use Rattle.capi.proofs.bk_series_quotient.Statement.{statement}
+use Rattle.capi.proofs.bk_series_quotient.Tie as tie
+
+divide-requires : tie.Need-divide-requires
+divide-requires c κs = search needs
+
+pack-requires : tie.Need-pack-requires
+pack-requires c κs = search needs
+
+same-length : tie.Need-same-length
+same-length c = search needs
+
+returns : tie.Need-returns
+returns c = (c .pack .ensures ∙ ap packed (c .before .before .before .divide .ensures .0), c .before .before .before .divide .ensures .1)
+
+pub bk-series-quotient-spec : {M : Type 1} → statement M
+bk-series-quotient-spec = tie.close (tie.spec divide-requires pack-requires same-length returns)

@@ -1,0 +1,272 @@
+// The engine for C and Rust: every public operation under a plain name. A slice is a pointer and a count; the result is the outcome in 64 bits.
+use numbers::number::Number;
+use numbers::number::NumberAnswer;
+use numbers::refusal::Answer;
+use numbers::refusal::Refusal;
+use numbers::refusal::Verdict;
+ghost use mathlib.Core.Path.{_≡_};
+ghost use mathlib.Core.Bool.{cond};
+ghost use mathlib.Core.List.{[], _∷_};
+ghost use Prim.Native.Nat.{_+_, _*_};
+ghost use lib.ListN.{length};
+ghost use Rattle.numbers.specs.Words.{over, lowWord};
+ghost use Rattle.numbers.specs.Refusals.{judge, outcome, refused, result, written};
+ghost use Rattle.numbers.specs.Number.{numberOutcome, sumOf, differenceOf, productOf, inverseNumber};
+ghost use Rattle.series.specs.Series.{seriesChecks, inverseChecks, quotientChecks, sums, differences, product, quotient};
+ghost use Rattle.rows.specs.Rows.{rowsChecks, multiplyChecks, shiftChecks, rowProduct, rowShift};
+ghost use Rattle.pair.specs.Pair.{pairChecks, continueChecks, order, PairDone, Leaves};
+ghost use Rattle.sheet.specs.Sheet.{Given, soundTest};
+ghost use Rattle.open.specs.Open.{openVerdict, needed, OpenDone};
+ghost use Rattle.lift.specs.Extend.{extendVerdict, ExtendDone};
+ghost use Rattle.calls.specs.Replay.{callsTo, replayVerdict, ReplayLeaves};
+ghost use Rattle.listing.specs.Listing.{Listed};
+ghost use Rattle.capi.specs.Packed.{packed, packedNumber, Packs};
+ghost use Rattle.capi.specs.Factor.{factorChecks, factorWords};
+
+mod factor; // reading a factor
+
+fn pack_refusal(r: Refusal) -> u64
+    ensures { λ x. ⌜ x ≡ packed (refused (r .number) (r .detail)) ⌝ }
+{
+    (r.number as u64) * 4294967296 + r.detail as u64
+}
+
+fn pack(a: Answer) -> u64
+    ensures { λ x. ⌜ x ≡ packed (outcome a) ⌝ }
+{
+    match a {
+        Answer::Done(n) => n as u64,
+        Answer::Refused(r) => pack_refusal(r),
+    }
+}
+
+fn pack_number(a: NumberAnswer) -> u64
+    ensures { λ x. ⌜ x ≡ packedNumber (numberOutcome a) ⌝ }
+{
+    match a {
+        NumberAnswer::Is(n) => n.value as u64,
+        NumberAnswer::Refused(r) => pack_refusal(r),
+    }
+}
+
+#[no_mangle]
+pub extern "C" fn bk_sum(p: u32, value: u32, other: u32) -> u64
+    ensures { λ r. ⌜ r ≡ packedNumber (sumOf (record { p = p; value = value }) other) ⌝ }
+{
+    pack_number(Number { p, value }.sum(other))
+}
+
+#[no_mangle]
+pub extern "C" fn bk_difference(p: u32, value: u32, other: u32) -> u64
+    ensures { λ r. ⌜ r ≡ packedNumber (differenceOf (record { p = p; value = value }) other) ⌝ }
+{
+    pack_number(Number { p, value }.difference(other))
+}
+
+#[no_mangle]
+pub extern "C" fn bk_product(p: u32, value: u32, other: u32) -> u64
+    ensures { λ r. ⌜ r ≡ packedNumber (productOf (record { p = p; value = value }) other) ⌝ }
+{
+    pack_number(Number { p, value }.product(other))
+}
+
+#[no_mangle]
+pub extern "C" fn bk_inverse(p: u32, value: u32) -> u64
+    ensures { λ r. ⌜ r ≡ packedNumber (inverseNumber (record { p = p; value = value })) ⌝ }
+{
+    pack_number(Number { p, value }.inverse())
+}
+
+#[no_mangle]
+pub extern "C" fn bk_series_sum(p: u32, n: u32, g: &[u32], h: &[u32], out: &mut [u32]) -> u64
+    ensures answer { λ r. ⌜ r ≡ packed (result (judge (seriesChecks p n (now (g .entry)) (now (h .entry)) (length (now (out .entry))))) n) ⌝ }
+    ensures words { λ _. ⌜ now (out .exit) ≡ written (judge (seriesChecks p n (now (g .entry)) (now (h .entry)) (length (now (out .entry)))))
+        (over (sums p n (now (g .entry)) (now (h .entry))) (now (out .entry))) (now (out .entry)) ⌝ }
+{
+    pack(series::sum(p, n, g, h, out))
+}
+
+#[no_mangle]
+pub extern "C" fn bk_series_difference(p: u32, n: u32, g: &[u32], h: &[u32], out: &mut [u32]) -> u64
+    ensures answer { λ r. ⌜ r ≡ packed (result (judge (seriesChecks p n (now (g .entry)) (now (h .entry)) (length (now (out .entry))))) n) ⌝ }
+    ensures words { λ _. ⌜ now (out .exit) ≡ written (judge (seriesChecks p n (now (g .entry)) (now (h .entry)) (length (now (out .entry)))))
+        (over (differences p n (now (g .entry)) (now (h .entry))) (now (out .entry))) (now (out .entry)) ⌝ }
+{
+    pack(series::difference(p, n, g, h, out))
+}
+
+#[no_mangle]
+pub extern "C" fn bk_series_product(p: u32, n: u32, g: &[u32], h: &[u32], out: &mut [u32]) -> u64
+    ensures answer { λ r. ⌜ r ≡ packed (result (judge (seriesChecks p n (now (g .entry)) (now (h .entry)) (length (now (out .entry))))) n) ⌝ }
+    ensures words { λ _. ⌜ now (out .exit) ≡ written (judge (seriesChecks p n (now (g .entry)) (now (h .entry)) (length (now (out .entry)))))
+        (over (product p n (now (g .entry)) (now (h .entry))) (now (out .entry))) (now (out .entry)) ⌝ }
+{
+    pack(series::multiply(p, n, g, h, out))
+}
+
+#[no_mangle]
+pub extern "C" fn bk_series_quotient(p: u32, n: u32, g: &[u32], h: &[u32], out: &mut [u32]) -> u64
+    ensures answer { λ r. ⌜ r ≡ packed (result (judge (quotientChecks p n (now (g .entry)) (now (h .entry)) (length (now (out .entry))))) n) ⌝ }
+    ensures words { λ _. ⌜ now (out .exit) ≡ written (judge (quotientChecks p n (now (g .entry)) (now (h .entry)) (length (now (out .entry)))))
+        (over (quotient p n (now (g .entry)) (now (h .entry))) (now (out .entry))) (now (out .entry)) ⌝ }
+{
+    pack(series::divide(p, n, g, h, out))
+}
+
+#[no_mangle]
+pub extern "C" fn bk_series_inverse(p: u32, n: u32, g: &[u32], out: &mut [u32]) -> u64
+    ensures answer { λ r. ⌜ r ≡ packed (result (judge (inverseChecks p n (now (g .entry)) (length (now (out .entry))))) n) ⌝ }
+    ensures words { λ _. ⌜ now (out .exit) ≡ written (judge (inverseChecks p n (now (g .entry)) (length (now (out .entry)))))
+        (over (quotient p n (1 ∷ []) (now (g .entry))) (now (out .entry))) (now (out .entry)) ⌝ }
+{
+    pack(series::invert(p, n, g, out))
+}
+
+#[no_mangle]
+pub extern "C" fn bk_rows_sum(p: u32, d: u32, n: u32, f: &[u32], g: &[u32], out: &mut [u32]) -> u64
+    ensures answer { λ r. ⌜ r ≡ packed (result (judge (rowsChecks p d n (now (f .entry)) (now (g .entry)) (length (now (out .entry))))) ((d + 1) * n)) ⌝ }
+    ensures words { λ _. ⌜ now (out .exit) ≡ written (judge (rowsChecks p d n (now (f .entry)) (now (g .entry)) (length (now (out .entry)))))
+        (over (sums p ((d + 1) * n) (now (f .entry)) (now (g .entry))) (now (out .entry))) (now (out .entry)) ⌝ }
+{
+    pack(rows::sum(p, d, n, f, g, out))
+}
+
+#[no_mangle]
+pub extern "C" fn bk_rows_difference(
+    p: u32,
+    d: u32,
+    n: u32,
+    f: &[u32],
+    g: &[u32],
+    out: &mut [u32],
+) -> u64
+    ensures answer { λ r. ⌜ r ≡ packed (result (judge (rowsChecks p d n (now (f .entry)) (now (g .entry)) (length (now (out .entry))))) ((d + 1) * n)) ⌝ }
+    ensures words { λ _. ⌜ now (out .exit) ≡ written (judge (rowsChecks p d n (now (f .entry)) (now (g .entry)) (length (now (out .entry)))))
+        (over (differences p ((d + 1) * n) (now (f .entry)) (now (g .entry))) (now (out .entry))) (now (out .entry)) ⌝ }
+{
+    pack(rows::difference(p, d, n, f, g, out))
+}
+
+#[no_mangle]
+pub extern "C" fn bk_rows_product(
+    p: u32,
+    d1: u32,
+    d2: u32,
+    n: u32,
+    f: &[u32],
+    g: &[u32],
+    out: &mut [u32],
+) -> u64
+    ensures answer { λ r. ⌜ r ≡ packed (result (judge (multiplyChecks p d1 d2 n (now (f .entry)) (now (g .entry)) (length (now (out .entry))))) ((d1 + d2 + 1) * n)) ⌝ }
+    ensures words { λ _. ⌜ now (out .exit) ≡ written (judge (multiplyChecks p d1 d2 n (now (f .entry)) (now (g .entry)) (length (now (out .entry)))))
+        (over (rowProduct p d1 d2 n (now (f .entry)) (now (g .entry))) (now (out .entry))) (now (out .entry)) ⌝ }
+{
+    pack(rows::multiply(p, d1, d2, n, f, g, out))
+}
+
+#[no_mangle]
+pub extern "C" fn bk_rows_shift(p: u32, d: u32, n: u32, f: &[u32], c: u32, out: &mut [u32]) -> u64
+    ensures answer { λ r. ⌜ r ≡ packed (result (judge (shiftChecks p d n (now (f .entry)) c (length (now (out .entry))))) ((d + 1) * n)) ⌝ }
+    ensures words { λ _. ⌜ now (out .exit) ≡ written (judge (shiftChecks p d n (now (f .entry)) c (length (now (out .entry)))))
+        (over (rowShift p d n (now (f .entry)) c) (now (out .entry))) (now (out .entry)) ⌝ }
+{
+    pack(rows::shift(p, d, n, f, c, out))
+}
+
+#[no_mangle]
+pub extern "C" fn bk_pair(p: u32, d: u32, n: u32, f: &[u32], w: u32, out: &mut [u32]) -> u64
+    ensures answer { λ r. ⌜ r ≡ packed (result (judge (pairChecks p d n (now (f .entry)) w (length (now (out .entry))))) (order d n (now (f .entry)))) ⌝ }
+    ensures words { λ _. ⌜ Leaves (judge (pairChecks p d n (now (f .entry)) w (length (now (out .entry))))) (PairDone p d n (now (f .entry)) w (now (out .entry)) (now (out .exit))) (now (out .entry)) (now (out .exit)) ⌝ }
+{
+    pack(pair::pair(p, d, n, f, w, out))
+}
+
+#[no_mangle]
+pub extern "C" fn bk_pair_continue(
+    p: u32,
+    d: u32,
+    n: u32,
+    f: &[u32],
+    h: u32,
+    w: u32,
+    out: &mut [u32],
+) -> u64
+    ensures answer { λ r. ⌜ r ≡ packed (result (judge (continueChecks p d n (now (f .entry)) h w (now (out .entry)))) (order d n (now (f .entry)))) ⌝ }
+    ensures words { λ _. ⌜ Leaves (judge (continueChecks p d n (now (f .entry)) h w (now (out .entry)))) (PairDone p d n (now (f .entry)) w (now (out .entry)) (now (out .exit))) (now (out .entry)) (now (out .exit)) ⌝ }
+{
+    pack(pair::pair_continue(p, d, n, f, h, w, out))
+}
+
+#[no_mangle]
+pub extern "C" fn bk_sheet_open(
+    p: u32,
+    d: u32,
+    n: u32,
+    f: &[u32],
+    roots: &[u32],
+    out: &mut [u32],
+) -> u64
+    ensures answer { λ r. ⌜
+        (let g : Given = record { p = p; D = d; N = n; rows = now (f .entry); roots = now (roots .entry) } in
+        r ≡ packed (result (openVerdict g (length (now (out .entry)))) (needed g)))
+        ⌝ }
+    ensures words { λ _. ⌜
+        (let g : Given = record { p = p; D = d; N = n; rows = now (f .entry); roots = now (roots .entry) } in
+        Leaves (openVerdict g (length (now (out .entry)))) (OpenDone g (now (out .entry)) (now (out .exit)) (needed g)) (now (out .entry)) (now (out .exit)))
+        ⌝ }
+{
+    pack(open::open(p, d, n, f, roots, out))
+}
+
+#[no_mangle]
+pub extern "C" fn bk_sheet_extend(sheet: &mut [u32], w: u32) -> u64
+    ensures answer { λ r. ⌜ r ≡ packed (result (extendVerdict (now (sheet .entry)) w) w) ⌝ }
+    ensures words { λ _. ⌜ Leaves (extendVerdict (now (sheet .entry)) w) (ExtendDone (now (sheet .entry)) w (now (sheet .exit))) (now (sheet .entry)) (now (sheet .exit)) ⌝ }
+{
+    pack(lift::extend(sheet, w))
+}
+
+// 1 for a sound sheet.
+#[no_mangle]
+pub extern "C" fn bk_sheet_test(sheet: &[u32]) -> u64
+    ensures { λ r. ⌜ r ≡ cond (soundTest (now (sheet .entry))) 1 0 ⌝ }
+{
+    sheet::test(sheet) as u64
+}
+
+// Root, power, start and length of factor i.
+#[no_mangle]
+pub extern "C" fn bk_sheet_factor(sheet: &[u32], i: u32, out: &mut [u32]) -> u64
+    ensures answer { λ r. ⌜ r ≡ packed (result (judge (factorChecks (now (sheet .entry)) i (length (now (out .entry))))) 4) ⌝ }
+    ensures words { λ _. ⌜ now (out .exit) ≡ written (judge (factorChecks (now (sheet .entry)) i (length (now (out .entry)))))
+        (over (factorWords (now (sheet .entry)) i) (now (out .entry))) (now (out .entry)) ⌝ }
+{
+    if let Verdict::Refuse(r) = factor::check_factor(sheet, i, out.len()) {
+        return pack_refusal(r);
+    }
+    factor::put_factor(sheet, i, out);
+    4
+}
+
+// A list of extend calls: call i is lent the first `lent[i]` words of the sheet and extends to `w[i]` terms. Two words are written for each call.
+#[no_mangle]
+pub extern "C" fn bk_sheet_replay(
+    sheet: &mut [u32],
+    lent: &[u32],
+    w: &[u32],
+    answers: &mut [u32],
+) -> u64
+    ensures answer { λ r. ⌜ r ≡ packed (result (replayVerdict (length (now (sheet .entry))) (now (lent .entry)) (now (w .entry)) (length (now (answers .entry)))) (lowWord (2 * length (now (lent .entry))))) ⌝ }
+    ensures words { λ _. ⌜ ReplayLeaves (replayVerdict (length (now (sheet .entry))) (now (lent .entry)) (now (w .entry)) (length (now (answers .entry))))
+        (callsTo (length (now (lent .entry))) (now (lent .entry)) (now (w .entry))) (now (sheet .entry)) (now (sheet .exit)) (now (answers .entry)) (now (answers .exit)) ⌝ }
+{
+    pack(calls::replay(sheet, lent, w, answers))
+}
+
+// The listing of a job file. The answer is its number of bytes.
+#[no_mangle]
+pub extern "C" fn bk_list(job: &[u8], out: &mut [u8]) -> u64
+    ensures { λ r. ⌜ Packs r (λ a. Listed (now (job .entry)) (now (out .entry)) a (now (out .exit))) ⌝ }
+{
+    pack(listing::list(job, out))
+}

@@ -1,0 +1,36 @@
+/* Splits Y^2 - 1 - X modulo 7, whose roots at X = 0 are 1 and 6, and prints both factors to 8 terms. */
+#include "bopkheul.h"
+
+#include <stdio.h>
+
+enum { P = 7, D = 2, N = 8, WORDS = 256 };
+
+static int refused(const char *call, uint64_t result) {
+    if (bk_refused(result) == BK_ACCEPTED) return 0;
+    fprintf(stderr, "%s: refused %u, detail %u\n", call, bk_refused(result), bk_answer(result));
+    return 1;
+}
+
+static void print_factor(const uint32_t *sheet, const uint32_t factor[4]) {
+    printf("root %u power %u\n", factor[0], factor[1]);
+    const uint32_t *row = sheet + factor[2];
+    for (uint32_t j = 0; j < factor[1]; j++, row += N) {
+        printf("Y^%u:", j);
+        for (int t = 0; t < N; t++) printf(" %u", row[t]);
+        printf("\n");
+    }
+}
+
+int main(void) {
+    const uint32_t f[(D + 1) * N] = {6, 6, [D * N] = 1}; /* row 0 is -1 - X, row 1 is 0, row 2 is 1 */
+    const uint32_t roots[] = {1, 6};
+    uint32_t sheet[WORDS];
+    if (refused("open", bk_sheet_open(P, D, N, f, (D + 1) * N, roots, 2, sheet, WORDS))) return 1;
+    if (refused("extend", bk_sheet_extend(sheet, WORDS, N))) return 1;
+    for (uint32_t i = 0; i < sheet[4]; i++) {
+        uint32_t factor[4];
+        if (refused("factor", bk_sheet_factor(sheet, WORDS, i, factor, 4))) return 1;
+        print_factor(sheet, factor);
+    }
+    return 0;
+}

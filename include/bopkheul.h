@@ -1,0 +1,94 @@
+/* Bopkheul: Weierstrass pairs and Hensel factors over F_p[[X]], by proved code.
+ *
+ * A series is n words, word t the coefficient of X^t. A row polynomial of degree bound d is d + 1 series, row j the coefficient of Y^j, stored
+ * row after row. A slice is a pointer and then its count of words (or bytes); a count of 0 takes any pointer but NULL. The slice that a call
+ * writes must not overlap any other that it is given. Nothing is allocated, and nothing is kept from call to call.
+ *
+ * The result of a call is 64 bits wide:
+ *   accepted   high half 0, low half the answer: the number of words written, or what the function's comment says;
+ *   refused    high half the refusal's number (enum bk_refusal), low half its detail. Then no word was written.
+ * Words past those that an accepted call answers for are untouched.
+ *
+ * Link with the archive that `rt staticlib capi` writes (x86-64 Linux); the README says how.
+ */
+#ifndef BOPKHEUL_H
+#define BOPKHEUL_H
+
+#include <stddef.h>
+#include <stdint.h>
+
+#ifdef __cplusplus
+extern "C" {
+#endif
+
+/* Why a call is refused. Checks run in the order of the numbers, but for those of a sheet's words, which are judged first. */
+enum bk_refusal {
+    BK_ACCEPTED = 0,
+    BK_MODULUS_RANGE = 1, /* p is below 2 or above 65,535 */
+    BK_COMPOSITE = 2,     /* p is composite; detail: its least divisor above 1 */
+    BK_DEGREE = 3,        /* a degree bound, or a product's, is above 32; for opening a sheet also 0 */
+    BK_TERMS = 4,         /* n is outside 1..256 */
+    BK_ROWS = 5,          /* an input is not exactly as long as d and n say; see also bk_sheet_replay */
+    BK_UNREDUCED = 6,     /* a coefficient, root or number is p or more; detail: the first one's position from 0, inputs counted on in the order given */
+    BK_NOT_MONIC = 7,     /* opening: row d is not 1, 0, 0, .. */
+    BK_ROOT_LIST = 8,     /* opening: the roots are none, more than d, or not strictly rising */
+    BK_UNSPLIT = 9,       /* opening: no powers, all 1 or more, of the roots give f at X = 0 */
+    BK_SHORT = 10,        /* the output is too short; detail: the words (or bytes) needed */
+    BK_FLAT = 11,         /* pair: every row is 0 at X = 0 */
+    BK_NO_UNIT = 12,      /* the divisor is 0 at X = 0, or the number inverted is 0 */
+    BK_SPOILED = 13,      /* the words are no sound sheet; or, continuing a pair, not its first h terms followed by zeros */
+    BK_BEYOND = 14,       /* the terms wanted are 0 or more than n */
+    BK_BEHIND = 15,       /* the terms wanted are fewer than those there */
+    BK_NO_FACTOR = 16     /* there is no factor of this index */
+};
+
+static inline uint32_t bk_refused(uint64_t result) { return (uint32_t)(result >> 32); } /* 0 where the call was accepted */
+static inline uint32_t bk_answer(uint64_t result) { return (uint32_t)result; }          /* the answer, or the refusal's detail */
+
+/* Numbers modulo p. The answer is the number. */
+uint64_t bk_sum(uint32_t p, uint32_t value, uint32_t other);
+uint64_t bk_difference(uint32_t p, uint32_t value, uint32_t other);
+uint64_t bk_product(uint32_t p, uint32_t value, uint32_t other);
+uint64_t bk_inverse(uint32_t p, uint32_t value);
+
+/* Series: g + h, g - h, g * h, g / h, 1 / g. The answer is n. */
+uint64_t bk_series_sum(uint32_t p, uint32_t n, const uint32_t *g, size_t g_count, const uint32_t *h, size_t h_count, uint32_t *out, size_t out_count);
+uint64_t bk_series_difference(uint32_t p, uint32_t n, const uint32_t *g, size_t g_count, const uint32_t *h, size_t h_count, uint32_t *out, size_t out_count);
+uint64_t bk_series_product(uint32_t p, uint32_t n, const uint32_t *g, size_t g_count, const uint32_t *h, size_t h_count, uint32_t *out, size_t out_count);
+uint64_t bk_series_quotient(uint32_t p, uint32_t n, const uint32_t *g, size_t g_count, const uint32_t *h, size_t h_count, uint32_t *out, size_t out_count);
+uint64_t bk_series_inverse(uint32_t p, uint32_t n, const uint32_t *g, size_t g_count, uint32_t *out, size_t out_count);
+
+/* Row polynomials: f + g, f - g, f * g with the bounds d1 and d2, f(Y + c). The answer is the number of words written. */
+uint64_t bk_rows_sum(uint32_t p, uint32_t d, uint32_t n, const uint32_t *f, size_t f_count, const uint32_t *g, size_t g_count, uint32_t *out, size_t out_count);
+uint64_t bk_rows_difference(uint32_t p, uint32_t d, uint32_t n, const uint32_t *f, size_t f_count, const uint32_t *g, size_t g_count, uint32_t *out, size_t out_count);
+uint64_t bk_rows_product(uint32_t p, uint32_t d1, uint32_t d2, uint32_t n, const uint32_t *f, size_t f_count, const uint32_t *g, size_t g_count, uint32_t *out, size_t out_count);
+uint64_t bk_rows_shift(uint32_t p, uint32_t d, uint32_t n, const uint32_t *f, size_t f_count, uint32_t c, uint32_t *out, size_t out_count);
+
+/* The Weierstrass pair f = P * A modulo X^w, in d + 1 rows: P's below its leading 1, then A's, columns from w up 0. The answer is the order of f, the
+ * degree of P. To continue, `out` holds the pair of f to h terms; only columns h..w-1 change. */
+uint64_t bk_pair(uint32_t p, uint32_t d, uint32_t n, const uint32_t *f, size_t f_count, uint32_t w, uint32_t *out, size_t out_count);
+uint64_t bk_pair_continue(uint32_t p, uint32_t d, uint32_t n, const uint32_t *f, size_t f_count, uint32_t h, uint32_t w, uint32_t *out, size_t out_count);
+
+/* A factor sheet: ten header words (p, d, n, terms worked, number of factors, offsets of roots, polynomial, factors and cofactors, total), then what
+ * the offsets name. Open writes one with one term, from f monic of degree d and its roots at X = 0, and answers its total of words. */
+uint64_t bk_sheet_open(uint32_t p, uint32_t d, uint32_t n, const uint32_t *f, size_t f_count, const uint32_t *roots, size_t roots_count, uint32_t *out, size_t out_count);
+/* Works the factors out to w terms, from those there. The answer is w. */
+uint64_t bk_sheet_extend(uint32_t *sheet, size_t sheet_count, uint32_t w);
+/* 1 where the words begin with a sound sheet, else 0; it refuses nothing. */
+uint64_t bk_sheet_test(const uint32_t *sheet, size_t sheet_count);
+/* Factor i, counted from 0: writes its root, its power, and start and length, in words of the sheet, of the part that holds its rows below the
+ * leading 1. The answer is 4. A spoiled sheet is refused before a short output, and that before an index with no factor. */
+uint64_t bk_sheet_factor(const uint32_t *sheet, size_t sheet_count, uint32_t i, uint32_t *out, size_t out_count);
+/* A list of extend calls: call l is lent the first lent[l] words of the sheet and extends to w[l] terms. It writes two words for each call: 0 and the
+ * answer, or the refusal's number and detail. Refused by 5: lent and w of unlike counts, or a call that lends more words than there are. */
+uint64_t bk_sheet_replay(uint32_t *sheet, size_t sheet_count, const uint32_t *lent, size_t lent_count, const uint32_t *w, size_t w_count, uint32_t *answers, size_t answers_count);
+
+/* The listing of a job file, which for a refused job is the one line `refused NUMBER DETAIL`. The answer is the number of bytes written; the only
+ * refusal of the call itself is 10. */
+uint64_t bk_list(const uint8_t *job, size_t job_count, uint8_t *out, size_t out_count);
+
+#ifdef __cplusplus
+}
+#endif
+
+#endif

@@ -1,0 +1,27 @@
+//! Document 01 once more, written from its text alone and by other methods than the engine's, so that a slip of one is not a slip of both.
+//!
+//! | | engine | here |
+//! |---|---|---|
+//! | prime modulus | trial division | a sieve of least divisors |
+//! | inverse of a number | Euclid's remainders | Fermat's power |
+//! | inverse of a series | column after column | Newton's doubling |
+//! | shift | weights from binomials | Horner over row polynomials |
+//! | powers of the roots | repeated division by Y − c | the order of f(Y + c), then multiplied back |
+//! | pair, factors | a chain of two-factor splits, each by synthetic division | one linear system for each column, over the unknowns of all factors at once |
+//! | soundness | stage after stage, link after link | the definitions: everything is multiplied out |
+//!
+//! Every operation has the arguments of the C interface (`include/bopkheul.h`), and answers `Ok(answer)` or `Err(refusal)`.
+//! It is written to be read, not to be fast.
+
+pub mod field;
+pub mod linear;
+pub mod listing;
+pub mod numbers;
+pub mod pair;
+pub mod polynomial;
+pub mod refusal;
+pub mod rows;
+pub mod series;
+pub mod sheet;
+
+pub use refusal::{Answer, Refusal};

@@ -1,0 +1,305 @@
+//! The factor sheet.
+//!
+//! Column t ≥ 1 of all factors is found at once from the columns before it: with a_l the factors at X = 0, the unknown columns δ_i (m_i
+//! numbers each, D together) satisfy Σ_i δ_i·Π_{l≠i} a_l = column t of f less what the earlier columns give.
+
+use crate::field::{least_divisor, sub};
+use crate::linear::{apply, invert, Matrix};
+use crate::polynomial::{
+    at_zero, column, constant, cut, line_power, lower_words, polynomial, product_column, product_of_all, series, set_column, shift, tail_products,
+    truncated, words, Polynomial,
+};
+use crate::refusal::{beyond, composite, judge, length, modulus_range, short, terms, unreduced, when, Answer, Refusal};
+
+const HEADER: usize = 10;
+
+/// A sheet taken apart.
+struct Sheet {
+    p: u32,
+    n: usize,
+    /// The terms worked.
+    k: usize,
+    /// Root and power.
+    roots: Vec<(u32, u32)>,
+    f: Polynomial,
+    /// With their leading 1.
+    factors: Vec<Polynomial>,
+    /// Cofactors 1 to r − 2, with their leading 1.
+    cofactors: Vec<Polynomial>,
+}
+
+/// The degrees of cofactors 1 to r − 2.
+fn cofactor_degrees(powers: &[usize]) -> Vec<usize> {
+    (1..powers.len().saturating_sub(1)).map(|i| powers[i..].iter().sum()).collect()
+}
+
+/// The ten header words.
+fn header(p: u32, n: usize, k: usize, powers: &[usize]) -> [u32; HEADER] {
+    let (d, r) = (powers.iter().sum::<usize>(), powers.len());
+    let cofactor_rows: usize = cofactor_degrees(powers).iter().sum();
+    let roots = HEADER;
+    let rows = roots + 2 * r;
+    let factors = rows + (d + 1) * n;
+    let cofactors = factors + d * n;
+    let total = cofactors + cofactor_rows * n;
+    [p, d as u32, n as u32, k as u32, r as u32, roots as u32, rows as u32, factors as u32, cofactors as u32, total as u32]
+}
+
+/// Roots and powers, where header words 1 to 4 and the powers are in their ranges.
+fn roots_in(s: &[u32]) -> Option<Vec<(u32, u32)>> {
+    let &[_, d, n, k, r, ..] = s.get(..HEADER)? else { return None };
+    if !(1..=32).contains(&d) || !(1..=256).contains(&n) || !(1..=n).contains(&k) || !(1..=d).contains(&r) {
+        return None;
+    }
+    let entries = s.get(HEADER..HEADER + 2 * r as usize)?;
+    let roots: Vec<(u32, u32)> = entries.chunks(2).map(|entry| (entry[0], entry[1])).collect();
+    roots.iter().all(|(_, m)| (1..=d).contains(m)).then_some(roots)
+}
+
+impl Sheet {
+    fn powers(&self) -> Vec<usize> {
+        self.roots.iter().map(|&(_, m)| m as usize).collect()
+    }
+
+    fn words(&self) -> Vec<u32> {
+        let mut all = header(self.p, self.n, self.k, &self.powers()).to_vec();
+        all.extend(self.roots.iter().flat_map(|&(c, m)| [c, m]));
+        all.extend(words(&self.f));
+        all.extend(self.factors.iter().chain(&self.cofactors).flat_map(|g| lower_words(g)));
+        all
+    }
+
+    /// What the words hold, where they are as many as their header says and the header is right.
+    fn read(s: &[u32]) -> Option<Sheet> {
+        let roots = roots_in(s)?;
+        let &[p, d, n, k, ..] = s else { return None };
+        let (n, k) = (n as usize, k as usize);
+        let powers: Vec<usize> = roots.iter().map(|&(_, m)| m as usize).collect();
+        let header = header(p, n, k, &powers);
+        if s[..HEADER] != header {
+            return None;
+        }
+        let mut rows = s.get(header[6] as usize..header[9] as usize)?.chunks(n).map(series);
+        let f = rows.by_ref().take(d as usize + 1).collect();
+        let mut monic = |degree: usize| -> Polynomial { rows.by_ref().take(degree).chain([constant(1, n)]).collect() };
+        let factors = powers.iter().map(|&m| monic(m)).collect();
+        let cofactors = cofactor_degrees(&powers).into_iter().map(monic).collect();
+        Some(Sheet { p, n, k, roots, f, factors, cofactors })
+    }
+
+    /// The conditions of document 01 that speak of numbers: everything is multiplied out, modulo X^k.
+    fn is_sound(&self) -> bool {
+        self.is_reduced() && self.is_monic() && self.starts_right() && self.ends_with_zeros() && self.multiplies_out()
+    }
+
+    fn is_reduced(&self) -> bool {
+        let p = self.p;
+        let below = |g: &Polynomial| g.iter().flatten().all(|&c| c < p as u64);
+        (2..=65535).contains(&p)
+            && least_divisor(p) == p
+            && self.roots.iter().all(|&(c, _)| c < p)
+            && self.roots.windows(2).all(|pair| pair[0].0 < pair[1].0)
+            && below(&self.f)
+            && self.factors.iter().chain(&self.cofactors).all(below)
+    }
+
+    fn is_monic(&self) -> bool {
+        self.f.last() == Some(&constant(1, self.n))
+    }
+
+    /// At X = 0, factor i is (Y − c_i)^(m_i) and f is their product.
+    fn starts_right(&self) -> bool {
+        let start = starting_factors(self.p, 1, &self.roots);
+        self.factors.iter().zip(&start).all(|(a, line)| at_zero(a) == *line) && at_zero(&self.f) == product_of_all(self.p as u64, 1, &start)
+    }
+
+    fn ends_with_zeros(&self) -> bool {
+        self.factors.iter().chain(&self.cofactors).all(|g| cut(g, self.k) == *g)
+    }
+
+    fn multiplies_out(&self) -> bool {
+        let known: Vec<Polynomial> = self.factors.iter().map(|a| truncated(a, self.k)).collect();
+        let tails = tail_products(self.p as u64, self.k, &known);
+        tails[0] == truncated(&self.f, self.k) && self.cofactors.iter().zip(&tails[1..]).all(|(g, tail)| truncated(g, self.k) == *tail)
+    }
+
+    /// To w terms.
+    fn extend(&mut self, w: usize) {
+        lift(self.p as u64, &self.f, &mut self.factors, self.k, w);
+        self.k = w;
+        self.cofactors = cofactors(self.p, self.n, &self.factors, w);
+    }
+}
+
+/// Cofactors 1 to r − 2 to k terms: cofactor i is the product of factors i + 1 to r.
+fn cofactors(p: u32, n: usize, factors: &[Polynomial], k: usize) -> Vec<Polynomial> {
+    let tails = tail_products(p as u64, n, factors);
+    (1..factors.len().saturating_sub(1)).map(|i| cut(&tails[i], k)).collect()
+}
+
+/// (Y − c_i)^(m_i) for each root.
+fn starting_factors(p: u32, n: usize, roots: &[(u32, u32)]) -> Vec<Polynomial> {
+    roots.iter().map(|&(c, m)| line_power(p as u64, n, c as u64, m as usize)).collect()
+}
+
+/// An unknown for each coefficient below the leading one of each factor; its matrix column is Y^j·Π_{l≠i} a_l, what it adds to f.
+fn system(p: u64, factors: &[Polynomial]) -> Matrix {
+    let start: Vec<Polynomial> = factors.iter().map(|a| at_zero(a)).collect();
+    let size = start.iter().map(|a| a.len() - 1).sum();
+    let mut matrix = vec![vec![0; size]; size];
+    let mut unknown = 0;
+    for i in 0..start.len() {
+        let others = column(&product_of_all(p, 1, &[&start[..i], &start[i + 1..]].concat()), 0);
+        for j in 0..start[i].len() - 1 {
+            others.iter().enumerate().for_each(|(e, &c)| matrix[e + j][unknown] = c);
+            unknown += 1;
+        }
+    }
+    matrix
+}
+
+/// Products of the first 0, 1, .. factors, kept so that a column of f's product costs no more than the column.
+struct Products(Vec<Polynomial>);
+
+impl Products {
+    fn new(n: usize, factors: &[Polynomial]) -> Products {
+        let mut all = vec![vec![constant(1, n)]];
+        for a in factors {
+            let rows = all[all.len() - 1].len() + a.len() - 1;
+            all.push(vec![vec![0; n]; rows]);
+        }
+        Products(all)
+    }
+
+    /// Works out column t of each product, and gives that of the last.
+    fn column(&mut self, p: u64, factors: &[Polynomial], t: usize) -> Vec<u64> {
+        for (i, a) in factors.iter().enumerate() {
+            let next = product_column(p, &self.0[i], a, t);
+            set_column(&mut self.0[i + 1], t, &next);
+        }
+        column(&self.0[factors.len()], t)
+    }
+}
+
+/// Columns from..to − 1 of the factors, whose later columns are 0.
+fn lift(p: u64, f: &Polynomial, factors: &mut [Polynomial], from: usize, to: usize) {
+    let solver = invert(p, &system(p, factors)).expect("the factors have no common root at X = 0");
+    let mut products = Products::new(f[0].len(), factors);
+    for t in 0..from {
+        products.column(p, factors, t);
+    }
+    for t in from..to {
+        let known = products.column(p, factors, t);
+        let missing: Vec<u64> = column(f, t).iter().zip(&known).map(|(&a, &b)| sub(p, a, b)).collect();
+        let mut solved = apply(p, &solver, &missing).into_iter();
+        for a in factors.iter_mut() {
+            let lower: Vec<u64> = solved.by_ref().take(a.len() - 1).collect();
+            set_column(a, t, &lower);
+        }
+        products.column(p, factors, t);
+    }
+}
+
+/// The power of each root in f at X = 0, which is the order of f(Y + c), where they give f.
+fn powers(p: u32, f: &Polynomial, roots: &[u32]) -> Option<Vec<(u32, u32)>> {
+    let start = at_zero(f);
+    let order = |c: u32| shift(p as u64, &start, c as u64).iter().position(|row| row[0] != 0);
+    let found: Vec<(u32, u32)> = roots.iter().map(|&c| (c, order(c).expect("f is monic") as u32)).collect();
+    let gives_f = product_of_all(p as u64, 1, &starting_factors(p, 1, &found)) == start;
+    (gives_f && found.iter().all(|&(_, m)| m >= 1)).then_some(found)
+}
+
+/// Writes a sheet with one term; the answer is its number of words.
+pub fn open(p: u32, d: u32, n: u32, f: &[u32], roots: &[u32], out: &mut [u32]) -> Answer {
+    judge(&[
+        (1, &|| modulus_range(p)),
+        (2, &|| composite(p)),
+        (3, &|| when(!(1..=32).contains(&d))),
+        (4, &|| terms(n)),
+        (5, &|| length(f, d as u64 + 1, n)),
+        (6, &|| unreduced(p, &[f, roots])),
+    ])?;
+    let n = n as usize;
+    let f = polynomial(f, n);
+    judge(&[
+        (7, &|| when(f[d as usize] != constant(1, n))),
+        (8, &|| when(roots.is_empty() || roots.len() > d as usize || roots.windows(2).any(|c| c[0] >= c[1]))),
+        (9, &|| when(powers(p, &f, roots).is_none())),
+    ])?;
+    let roots = powers(p, &f, roots).expect("judged");
+    let factors = starting_factors(p, n, &roots);
+    let cofactors = cofactors(p, n, &factors, 1);
+    let all = Sheet { p, n, k: 1, roots, f, factors, cofactors }.words();
+    judge(&[(10, &|| short(out, all.len()))])?;
+    out[..all.len()].copy_from_slice(&all);
+    Ok(all.len() as u32)
+}
+
+fn sound(sheet: &[u32]) -> Option<Sheet> {
+    Sheet::read(sheet).filter(Sheet::is_sound)
+}
+
+fn spoiled() -> Refusal {
+    Refusal { number: 13, detail: 0 }
+}
+
+pub fn test(sheet: &[u32]) -> bool {
+    sound(sheet).is_some()
+}
+
+/// Works the sheet on to w terms; the answer is w.
+pub fn extend(sheet: &mut [u32], w: u32) -> Answer {
+    let mut read = sound(sheet).ok_or(spoiled())?;
+    judge(&[(14, &|| beyond(w, read.n as u32)), (15, &|| when((w as usize) < read.k))])?;
+    read.extend(w as usize);
+    let all = read.words();
+    sheet[..all.len()].copy_from_slice(&all);
+    Ok(w)
+}
+
+/// Writes root, power, and start and length of the part that holds the rows of factor i, counted from 0; the answer is 4.
+pub fn factor(sheet: &[u32], i: u32, out: &mut [u32]) -> Answer {
+    let read = sound(sheet).ok_or(spoiled())?;
+    judge(&[(10, &|| short(out, 4)), (16, &|| when(i as usize >= read.roots.len()))])?;
+    let i = i as usize;
+    let (root, power) = read.roots[i];
+    let rows_before: usize = read.powers()[..i].iter().sum();
+    let start = sheet[7] as usize + rows_before * read.n;
+    out[..4].copy_from_slice(&[root, power, start as u32, power * read.n as u32]);
+    Ok(4)
+}
+
+/// Makes the calls of a list: call l is lent the first lent[l] words and extends to w[l] terms. Its answer goes to two words: 0 and w, or the refusal's
+/// number and detail. The answer is the number of words written. Lists of unlike lengths, or a call that lends more words than there are, are 5.
+pub fn replay(sheet: &mut [u32], lent: &[u32], w: &[u32], answers: &mut [u32]) -> Answer {
+    let size = sheet.len();
+    judge(&[(5, &|| when(lent.len() != w.len() || lent.iter().any(|&words| words as usize > size))), (10, &|| short(answers, 2 * w.len()))])?;
+    for (l, (&words, &to)) in lent.iter().zip(w).enumerate() {
+        let answer = match extend(&mut sheet[..words as usize], to) {
+            Ok(terms) => [0, terms],
+            Err(refusal) => [refusal.number, refusal.detail],
+        };
+        answers[2 * l..2 * l + 2].copy_from_slice(&answer);
+    }
+    Ok(2 * w.len() as u32)
+}
+
+/// Demand 3's plain count: fed with T and N and, for each call, the words lent and w, it says what `replay` writes, and K.
+pub fn plain_count(total: u32, n: u32, lent: &[u32], w: &[u32]) -> (Vec<u32>, u32) {
+    let mut terms = 1;
+    let mut answers = Vec::new();
+    for (&words, &to) in lent.iter().zip(w) {
+        let step = if words < total {
+            [13, 0]
+        } else if to == 0 || to > n {
+            [14, 0]
+        } else if to < terms {
+            [15, 0]
+        } else {
+            terms = to;
+            [0, to]
+        };
+        answers.extend(step);
+    }
+    (answers, terms)
+}
