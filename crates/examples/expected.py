@@ -229,7 +229,12 @@ print("",*(sheet(*job,3)+[99]))
 print("refused 5 0:",*answers)
 print("refused 10 10:",*[9]*9)
 opens(*three[:5],[9]*64)
-print("done 4:",*sheet(*three,4)); print("sound"); print("not sound"); print("not sound")
+s=sheet(*three,4)
+print("done 4:",*s); print("sound")
+shifted=[9]*9
+rowshift(5,1,4,s[40:48],3,shifted)
+rowshift(5,1,4,[],3,shifted)
+print("not sound"); print("not sound")
 f=[0]*32+[1]
 for D in (33,0,32): opens(7,D,1,f,[0],[9]*78)
 f=[0]*512; f[1]=f[256]=1

@@ -10,7 +10,8 @@ ghost use Prim.Native.Nat.{ℕ, _+_, _*_, _≤_};
 ghost use lib.ListN.{length};
 ghost use Rattle.numbers.specs.Words.{part, over};
 ghost use Rattle.numbers.specs.Refusals.{judge, outcome, result, written};
-ghost use Rattle.rows.specs.Rows.{multiplyChecks, rowProduct};
+ghost use Rattle.rows.specs.Rows.{multiplyChecks, rowProduct, shiftChecks, rowShift};
+ghost use Rattle.sheet.specs.Sheet.{readVerdict, readPart};
 
 fn say(text: &[u8]) {
     io::write_all(STDOUT_FILENO, text);
@@ -223,6 +224,15 @@ fn job_calls() {
     say_words(calls::replay(&mut s, &lent, &goals, &mut few), &few);
 }
 
+// The rows of factor i, where they stand in the sheet, at Y + by.
+fn shift_of_factor(s: &[u32], i: u32, p: u32, d: u32, n: u32, by: u32, out: &mut [u32]) -> Answer
+    ensures answer { λ r. ⌜ outcome r ≡ result (judge (shiftChecks p d n (readPart (readVerdict (now (s .entry)) i) (now (s .entry)) i) by (length (now (out .entry))))) ((d + 1) * n) ⌝ }
+    ensures words { λ _. ⌜ now (out .exit) ≡ written (judge (shiftChecks p d n (readPart (readVerdict (now (s .entry)) i) (now (s .entry)) i) by (length (now (out .entry)))))
+        (over (rowShift p d n (readPart (readVerdict (now (s .entry)) i) (now (s .entry)) i) by) (now (out .entry))) (now (out .entry)) ⌝ }
+{
+    rows::shift(p, d, n, sheet::factor_rows(s, i), by, out)
+}
+
 // Y (Y − 1)² (Y − 3) over 5 at X = 0, four terms: a double root, a cofactor, and p barely above the degree.
 fn three_roots() {
     let f = [
@@ -252,6 +262,10 @@ fn three_roots() {
     say_words(open::open(5, 4, 4, &f, &roots, &mut s), &s);
     say_words(lift::extend(&mut s, 4), &s);
     say_test(&s);
+    // the double root's rows at Y + 3; there is no factor 3, so that its part is empty and too short
+    let mut shifted = [9u32; 9];
+    say_words(shift_of_factor(&s, 1, 5, 1, 4, 3, &mut shifted), &shifted);
+    say_words(shift_of_factor(&s, 3, 5, 1, 4, 3, &mut shifted), &shifted);
     // more terms than columns; a word of the cofactor changed
     s[3] = 5;
     say_test(&s);
