@@ -1,5 +1,6 @@
-/* The engine's methods in straightforward C, with the same checks: words of 32 bits, sums of products in 64, one reduction for each coefficient; factors column by
- * column along the chain of two-factor splits, each column by synthetic division. */
+/* The engine's operations in straightforward C, with the same checks: words of 32 bits, sums of products in 64, one reduction for each coefficient. Its sheets are
+ * document 01's, with stored cofactors: a sheet is tested by multiplying the chain of factors and cofactors back, and extended link by link along that chain, each
+ * column of a link by synthetic division. */
 #include "baseline.h"
 
 #include <stdbool.h>
@@ -216,15 +217,24 @@ static bool words_fit(const uint32_t *s) {
     return true;
 }
 
+/* The product of (Y - c)^m over factors first..last - 1; the result is its degree. */
+static size_t multiply_lines(const uint32_t *s, size_t first, size_t last, uint32_t product[MAX_ROWS]) {
+    uint64_t p = s[0];
+    size_t degree = 0;
+    memset(product, 0, MAX_ROWS * sizeof *product);
+    product[0] = 1;
+    for (size_t i = first; i < last; i++)
+        for (size_t e = 0; e < power(s, i); e++, degree++)
+            for (size_t j = degree + 2; j-- > 0;) product[j] = (uint32_t)(((j ? product[j - 1] : 0) + (p - root(s, i)) * product[j]) % p);
+    return degree;
+}
+
 /* Each factor at X = 0 is (Y - c)^m. */
 static bool lines_fit(const uint32_t *s) {
-    uint64_t p = s[0];
     const uint32_t *rows = s + s[7];
     for (size_t i = 0; i < s[4]; i++) {
-        uint32_t line[MAX_ROWS] = {1};
-        size_t m = power(s, i);
-        for (size_t e = 1; e <= m; e++)
-            for (size_t j = e + 1; j-- > 0;) line[j] = (uint32_t)(((j ? line[j - 1] : 0) + (p - root(s, i)) * line[j]) % p);
+        uint32_t line[MAX_ROWS];
+        size_t m = multiply_lines(s, i, i + 1, line);
         for (size_t j = 0; j < m; j++, rows += s[2])
             if (rows[0] != line[j]) return false;
     }
@@ -262,4 +272,37 @@ uint64_t base_sheet_extend(uint32_t *s, size_t count, uint32_t w) {
     }
     s[3] = w;
     return w;
+}
+
+/* --- a fresh sheet, which is not timed: what it is given is right --- */
+
+/* Writes the product of (Y - c)^m over factors first..last - 1 to column 0 of the next rows, and gives the row after them. */
+static uint32_t *put_product(const uint32_t *s, size_t first, size_t last, uint32_t *rows) {
+    uint32_t product[MAX_ROWS];
+    size_t degree = multiply_lines(s, first, last, product);
+    for (size_t j = 0; j < degree; j++, rows += s[2]) rows[0] = product[j];
+    return rows;
+}
+
+static void put_header(uint32_t p, uint32_t d, uint32_t n, const uint32_t *powers, uint32_t count, uint32_t *s) {
+    uint32_t polynomial = HEADER + 2 * count, factors = polynomial + (d + 1) * n, cofactors = factors + d * n, total = cofactors;
+    for (uint32_t i = 0, left = d; i + 2 < count; i++) {
+        left -= powers[i];
+        total += left * n;
+    }
+    memcpy(s, (uint32_t[HEADER]){p, d, n, 1, count, HEADER, polynomial, factors, cofactors, total}, HEADER * sizeof *s);
+}
+
+uint64_t base_sheet_open(uint32_t p, uint32_t d, uint32_t n, const uint32_t *f, const uint32_t *roots, const uint32_t *powers, uint32_t count, uint32_t *s) {
+    put_header(p, d, n, powers, count, s);
+    memset(s + HEADER, 0, (s[9] - HEADER) * sizeof *s);
+    for (size_t i = 0; i < count; i++) {
+        s[HEADER + 2 * i] = roots[i];
+        s[HEADER + 2 * i + 1] = powers[i];
+    }
+    memcpy(s + s[6], f, (d + 1) * n * sizeof *s);
+    uint32_t *rows = s + s[7];
+    for (size_t i = 0; i < count; i++) rows = put_product(s, i, i + 1, rows);
+    for (size_t i = 1; i + 1 < count; i++) rows = put_product(s, i, count, rows);
+    return s[9];
 }

@@ -29,58 +29,85 @@ static void fill(uint32_t *words, size_t count) {
     for (size_t i = 0; i < count; i++) words[i] = random_word();
 }
 
-static uint32_t g[MAX_N], h[MAX_N], f[(D + 1) * MAX_N];
-static uint32_t fresh[WORDS]; /* what a call begins with, where it works in place */
+/* Side 0 is the engine, side 1 the C version or a library. */
+static uint32_t g[MAX_N], h[MAX_N], f[(D + 1) * MAX_N], roots[D], powers[D];
+static uint32_t fresh[2][WORDS]; /* what a call begins with, where it works in place: each side's own sheet */
 static uint32_t out[2][WORDS];
+static size_t words[2]; /* of fresh and out */
+static uint64_t answers[2];
 static uint32_t n;
-static size_t words; /* of out, as far as results are compared */
 
-static void series_input(void) {
+/* How far a sheet is worked before its call. */
+enum start { ONE_TERM, HALF, FULL };
+
+struct benchmark {
+    const char *name;
+    void (*input)(const struct benchmark *b);
+    uint64_t (*call)(int side);
+    bool (*same)(void); /* whether both sides' results are identical */
+    uint32_t roots;     /* of a sheet, all of the same power; 0 for what is not a sheet */
+    enum start start;
+};
+
+static void stop_unless(bool holds, const struct benchmark *b, const char *what) {
+    if (holds) return;
+    printf("%s, N = %u: %s\n", b->name, n, what);
+    exit(1);
+}
+
+static void series_input(const struct benchmark *b) {
+    (void)b;
     fill(g, n);
     fill(h, n);
     g[0] = 1 + random_word() % (P - 1);
-    words = n;
+    words[0] = words[1] = n;
 }
 
-static void pair_input(void) {
-    words = (D + 1) * n;
-    fill(f, words);
+static void pair_input(const struct benchmark *b) {
+    (void)b;
+    words[0] = words[1] = (D + 1) * n;
+    fill(f, words[0]);
     for (size_t j = 0; j < ORDER; j++) f[j * n] = 0;
     f[ORDER * n] = 1 + random_word() % (P - 1);
 }
 
-/* A polynomial whose roots at X = 0 are `count` numbers, all of the same power, opened. */
-static void sheet_input(uint32_t count) {
-    uint32_t roots[D];
-    uint64_t start[D + 1] = {1};
-    uint32_t degree = 0;
+static void draw_roots(uint32_t count) {
     for (uint32_t i = 0; i < count; i++) {
         roots[i] = 1000 * (i + 1) + random_word() % 1000;
-        for (uint32_t m = 0; m < D / count; m++) {
+        powers[i] = D / count;
+    }
+}
+
+/* Monic, at X = 0 as the roots and powers say, and elsewhere at random. */
+static void draw_polynomial(uint32_t count) {
+    uint64_t start[D + 1] = {1};
+    uint32_t degree = 0;
+    for (uint32_t i = 0; i < count; i++)
+        for (uint32_t m = 0; m < powers[i]; m++) {
             degree++;
             for (uint32_t j = degree + 1; j-- > 0;) start[j] = ((j ? start[j - 1] : 0) + start[j] * (P - roots[i])) % P;
         }
-    }
     fill(f, D * n);
     memset(f + D * n, 0, n * sizeof *f);
     for (uint32_t j = 0; j <= D; j++) f[j * n] = (uint32_t)start[j];
-    uint64_t result = bk_sheet_open(P, D, n, f, (D + 1) * n, roots, count, fresh, WORDS);
-    if (bk_refused(result)) {
-        printf("open: refused %u %u\n", bk_refused(result), bk_answer(result));
-        exit(1);
-    }
-    words = bk_answer(result);
 }
 
-static void simple_input(void) { sheet_input(D); }
-static void power_input(void) { sheet_input(2); }
+static uint32_t terms_at(enum start start) { return start == ONE_TERM ? 1 : start == HALF ? n / 2 : n; }
 
-static void full_sheet_input(void) {
-    sheet_input(D);
-    bk_sheet_extend(fresh, words, n);
+/* Each side opens its own sheet of the same polynomial, and works it as far as the call wants it. */
+static void sheet_input(const struct benchmark *b) {
+    draw_roots(b->roots);
+    draw_polynomial(b->roots);
+    uint64_t opened = bk_sheet_open(P, D, n, f, (D + 1) * n, roots, b->roots, fresh[0], WORDS);
+    stop_unless(!bk_refused(opened), b, "the engine refuses to open the sheet");
+    words[0] = bk_answer(opened);
+    words[1] = base_sheet_open(P, D, n, f, roots, powers, b->roots, fresh[1]);
+    uint32_t w = terms_at(b->start);
+    stop_unless(bk_sheet_extend(fresh[0], words[0], w) == w, b, "the engine refuses to extend the sheet");
+    stop_unless(base_sheet_extend(fresh[1], words[1], w) == w, b, "the C version refuses to extend the sheet");
 }
 
-/* --- the calls: side 0 is the engine, side 1 the C version --- */
+/* --- the calls --- */
 
 static uint64_t product(int side) {
     return (side ? base_series_product : bk_series_product)(P, n, g, n, h, n, out[side], n);
@@ -91,32 +118,40 @@ static uint64_t inverse(int side) {
 }
 
 static uint64_t pair(int side) {
-    return (side ? base_pair : bk_pair)(P, D, n, f, (D + 1) * n, n, out[side], words);
+    return (side ? base_pair : bk_pair)(P, D, n, f, (D + 1) * n, n, out[side], words[side]);
 }
 
 static uint64_t extend(int side) {
-    return (side ? base_sheet_extend : bk_sheet_extend)(out[side], words, n);
+    return (side ? base_sheet_extend : bk_sheet_extend)(out[side], words[side], n);
 }
 
 static uint64_t test(int side) {
-    return (side ? base_sheet_test : bk_sheet_test)(out[side], words);
+    return (side ? base_sheet_test : bk_sheet_test)(out[side], words[side]);
 }
 
-struct benchmark {
-    const char *name;
-    void (*input)(void);
-    uint64_t (*call)(int side);
-    bool in_place; /* out begins as a copy of fresh, which is not timed */
-    bool once;     /* the call changes what it is given, so a sample is one call */
-};
+/* --- results --- */
+
+static bool same_words(void) { return !memcmp(out[0], out[1], words[0] * sizeof **out); }
+
+/* p, D, N, k and r; then, from word 10 on, roots, powers, polynomial and factors, which end where the engine's sheet ends and the cofactors of the other begin. */
+static bool same_sheet(void) {
+    size_t end = words[0];
+    return out[1][8] == end && !memcmp(out[0], out[1], 5 * sizeof **out) && !memcmp(out[0] + 10, out[1] + 10, (end - 10) * sizeof **out);
+}
 
 static const struct benchmark BENCHMARKS[] = {
-    {"series product", series_input, product, false, false},
-    {"series inverse", series_input, inverse, false, false},
-    {"lift of 32 simple roots", simple_input, extend, true, true},
-    {"lift of 2 roots of power 16", power_input, extend, true, true},
-    {"pair, D = 32, d = 16", pair_input, pair, false, false},
-    {"test of a full sheet, 32 simple roots", full_sheet_input, test, true, false},
+    {"series product", series_input, product, same_words, 0, 0},
+    {"series inverse", series_input, inverse, same_words, 0, 0},
+    {"pair, D = 32, d = 16", pair_input, pair, same_words, 0, 0},
+    {"extend 1 to N, 32 simple roots", sheet_input, extend, same_sheet, 32, ONE_TERM},
+    {"extend 1 to N, 8 roots of power 4", sheet_input, extend, same_sheet, 8, ONE_TERM},
+    {"extend 1 to N, 2 roots of power 16", sheet_input, extend, same_sheet, 2, ONE_TERM},
+    {"extend N/2 to N, 32 simple roots", sheet_input, extend, same_sheet, 32, HALF},
+    {"extend N/2 to N, 8 roots of power 4", sheet_input, extend, same_sheet, 8, HALF},
+    {"extend N/2 to N, 2 roots of power 16", sheet_input, extend, same_sheet, 2, HALF},
+    {"test of a full sheet, 32 simple roots", sheet_input, test, same_sheet, 32, FULL},
+    {"test of a full sheet, 8 roots of power 4", sheet_input, test, same_sheet, 8, FULL},
+    {"test of a full sheet, 2 roots of power 16", sheet_input, test, same_sheet, 2, FULL},
 };
 enum { COUNT = sizeof BENCHMARKS / sizeof *BENCHMARKS };
 
@@ -139,30 +174,25 @@ static double median(double *samples) {
     return samples[SAMPLES / 2];
 }
 
+/* The sheet is copied back from the saved one before the clock starts, on both sides. */
 static double sample(const struct benchmark *b, int side, int repeats) {
-    if (b->in_place) memcpy(out[side], fresh, words * sizeof *fresh);
+    if (b->roots) memcpy(out[side], fresh[side], words[side] * sizeof **out);
     double start = now();
-    for (int i = 0; i < repeats; i++) b->call(side);
+    for (int i = 0; i < repeats; i++) answers[side] = b->call(side);
     return (now() - start) / repeats;
 }
 
+/* Extend changes what it is given, so a sample of it is one call. */
 static int repeats_for(const struct benchmark *b) {
-    if (b->once) return 1;
+    if (b->call == extend) return 1;
     double one = sample(b, 0, 1);
     return one < SAMPLE_SECONDS ? (int)(SAMPLE_SECONDS / one) + 1 : 1;
 }
 
+/* No answer is 0 here: test says yes, the others answer N or the order. */
 static void check_same(const struct benchmark *b) {
-    uint64_t answers[2];
-    for (int side = 0; side < 2; side++) {
-        memset(out[side], 0, sizeof out[side]);
-        if (b->in_place) memcpy(out[side], fresh, words * sizeof *fresh);
-        answers[side] = b->call(side);
-    }
-    if (answers[0] != answers[1] || bk_refused(answers[0]) || memcmp(out[0], out[1], sizeof out[0])) {
-        printf("%s, N = %u: the engine and its C version differ, or refuse\n", b->name, n);
-        exit(1);
-    }
+    stop_unless(answers[0] == answers[1] && answers[0] && !bk_refused(answers[0]), b, "the answers differ, or are a refusal or no");
+    stop_unless(b->same(), b, "the results differ");
 }
 
 struct medians {
@@ -178,14 +208,15 @@ static struct medians take_turns(const struct benchmark *b) {
             int side = (i + turn) % 2;
             samples[side][i] = sample(b, side, repeats);
         }
+        check_same(b);
         ratios[i] = samples[0][i] / samples[1][i];
     }
     return (struct medians){{median(samples[0]), median(samples[1])}, median(ratios)};
 }
 
 static struct medians measure(const struct benchmark *b) {
-    b->input();
-    check_same(b);
+    memset(out, 0, sizeof out);
+    b->input(b);
     return take_turns(b);
 }
 
@@ -217,7 +248,6 @@ static double benchmark_table(void) {
 
 static const struct other *library;
 
-/* Side 1 is the library. */
 static uint64_t library_product(int side) {
     if (side == 0) return product(0);
     library->product();
@@ -230,27 +260,22 @@ static uint64_t library_inverse(int side) {
     return n;
 }
 
-static const struct benchmark NEAREST[] = {
-    {"series product", series_input, library_product, false, false},
-    {"series inverse", series_input, library_inverse, false, false},
-};
-
-static void check_library(const struct benchmark *b) {
-    for (int side = 0; side < 2; side++) b->call(side);
+static bool same_as_library(void) {
     library->give(out[1]);
-    if (memcmp(out[0], out[1], words * sizeof *out[0])) {
-        printf("%s, %s: another result than the engine's\n", library->name, b->name);
-        exit(1);
-    }
+    return same_words();
 }
+
+static const struct benchmark NEAREST[] = {
+    {"series product", series_input, library_product, same_as_library, 0, 0},
+    {"series inverse", series_input, library_inverse, same_as_library, 0, 0},
+};
 
 static void library_rows(void) {
     n = MAX_N;
     for (size_t i = 0; i < sizeof NEAREST / sizeof *NEAREST; i++) {
         const struct benchmark *b = &NEAREST[i];
-        b->input();
+        b->input(b);
         library->load(P, n, g, h);
-        check_library(b);
         struct medians m = take_turns(b);
         printf("| %s | %s | %u | %.2f | %.2f | %.2f |\n", library->name, b->name, n, m.seconds[0] * 1e6, m.seconds[1] * 1e6, m.ratio);
     }
@@ -287,7 +312,8 @@ static void library_table(void) {
 
 int main(void) {
     printf("p = %d, D = %d; medians of %d samples of processor time, engine and C (gcc -O3 -march=x86-64) in turn on the same input, results identical.\n"
-           "A ratio is the median of the ratios of two samples taken one after the other.\n\n", P, D, SAMPLES);
+           "Each has its own sheet of the same polynomial: the C version's is document 01's, with cofactors. A ratio is the median of the ratios of two samples\n"
+           "taken one after the other.\n\n", P, D, SAMPLES);
     double worst = benchmark_table();
     printf("\nThe largest ratio is %.2f.\n", worst);
     library_table();

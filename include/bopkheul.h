@@ -69,8 +69,10 @@ uint64_t bk_rows_shift(uint32_t p, uint32_t d, uint32_t n, const uint32_t *f, si
 uint64_t bk_pair(uint32_t p, uint32_t d, uint32_t n, const uint32_t *f, size_t f_count, uint32_t w, uint32_t *out, size_t out_count);
 uint64_t bk_pair_continue(uint32_t p, uint32_t d, uint32_t n, const uint32_t *f, size_t f_count, uint32_t h, uint32_t w, uint32_t *out, size_t out_count);
 
-/* A factor sheet: ten header words (p, d, n, terms worked, number of factors, offsets of roots, polynomial, factors and cofactors, total), then what
- * the offsets name. Open writes one with one term, from f monic of degree d and its roots at X = 0, and answers its total of words. */
+/* A factor sheet with r factors takes exactly 10 + 2r + (2d + 1)n words: ten header words (p, d, n, terms worked, r, offsets of roots, polynomial and
+ * factors, and twice the total), then root and power of each factor, the d + 1 rows of the polynomial, and the d rows of the factors below their leading 1,
+ * columns from the terms worked up 0. Words past the total are free. Open writes a sheet with one term, from f monic of degree d and its roots at X = 0, and
+ * answers the total. */
 uint64_t bk_sheet_open(uint32_t p, uint32_t d, uint32_t n, const uint32_t *f, size_t f_count, const uint32_t *roots, size_t roots_count, uint32_t *out, size_t out_count);
 /* Works the factors out to w terms, from those there. The answer is w. */
 uint64_t bk_sheet_extend(uint32_t *sheet, size_t sheet_count, uint32_t w);

@@ -1,4 +1,4 @@
-//! Document 01's examples, by the words that it prints.
+//! Document 01's examples, by the words that it prints, and the sheet that document 02's F-8 makes smaller.
 
 use crate::random::Random;
 use crate::report::{engine, Outcome, Report};
@@ -32,6 +32,19 @@ fn modulo_2(report: &mut Report) {
     example(report, "its two terms", engine(sheet::extend(&mut words, 2)), Ok(2));
     example(report, "its powers", &words[10..14], &[0, 2, 1, 1]);
     example(report, "its factors", &words[22..28], &[0, 1, 0, 0, 1, 0]);
+}
+
+/// Y³ − 1 − X modulo 7: at X = 0 its roots are 1, 2 and 4, and each root c moves by X / 3c².
+fn three_roots(report: &mut Report) {
+    let f = [6, 6, 0, 0, 0, 0, 1, 0];
+    let mut words = [0; 30];
+    let opened = |out: &mut [u32]| engine(sheet::open(7, 3, 2, &f, &[1, 2, 4], out));
+    let what = "document 02, F-8: a sheet of three roots";
+    report.expect(opened(&mut words[..29]) == Err((10, 30)) && opened(&mut words) == Ok(30), what);
+    report.expect(words[..10] == [7, 3, 2, 1, 3, 10, 16, 24, 30, 30], what);
+    report.expect(engine(sheet::extend(&mut words[..29], 2)) == Err((13, 0)) && engine(sheet::extend(&mut words, 2)) == Ok(2), what);
+    report.expect(words[24..] == [6, 2, 5, 4, 3, 1], what);
+    report.kind("the sheet of document 02's F-8");
 }
 
 fn one_pair(report: &mut Report, what: &str, d: u32, n: u32, f: &[u32], order: u32, expected: &[u32]) {
@@ -77,4 +90,5 @@ pub fn run(_: &mut Random, report: &mut Report) {
     pairs(report);
     moduli(report);
     limits(report);
+    three_roots(report);
 }

@@ -3,8 +3,10 @@
 //! an error.
 
 mod documents;
+mod extensions;
 mod listings;
 mod numbers;
+mod old_layout;
 mod pairs;
 mod polynomials;
 mod random;
@@ -19,7 +21,8 @@ use std::process::exit;
 
 type Section = fn(&mut Random, &mut Report);
 
-const SECTIONS: [Section; 7] = [documents::run, numbers::run, series::run, rows::run, pairs::run, sheets::run, listings::run];
+const SECTIONS: [Section; 9] =
+    [documents::run, numbers::run, series::run, rows::run, pairs::run, sheets::run, extensions::run, old_layout::run, listings::run];
 
 fn seeds() -> Vec<u64> {
     let given: Vec<u64> = std::env::args().skip(1).map(|word| word.parse().expect("a seed is a number")).collect();

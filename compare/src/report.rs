@@ -66,8 +66,9 @@ pub const OPERATIONS: [Operation; 22] = [
 ];
 
 /// Kinds of inputs: each must have come up.
-pub const KINDS: [&str; 31] = [
+pub const KINDS: [&str; 49] = [
     "document 01's examples",
+    "the sheet of document 02's F-8",
     "every modulus from 0 to 66,000",
     "a power of p or more",
     "32 rows or 256 columns",
@@ -79,25 +80,42 @@ pub const KINDS: [&str; 31] = [
     "pair: f changed in a later column only",
     "pair: a word below h changed",
     "pair: a word from h up changed",
+    "sheet: opened into T − 1 words and into T",
     "sheet: worked in several goes",
     "sheet: only its first words lent",
     "sheet: a list of calls",
-    "sheet: header word changed",
-    "sheet: header word changed, still sound",
+    "sheet: p or k changed",
+    "sheet: p or k changed, still sound",
+    "sheet: D, N, r or an offset changed",
+    "sheet: header word 8 changed",
+    "sheet: header word 9 changed",
+    "sheet: header words 8 and 9 changed alike",
     "sheet: root changed",
     "sheet: power changed",
     "sheet: polynomial changed below k",
     "sheet: polynomial changed from k up",
     "sheet: polynomial changed from k up, still sound",
+    "sheet: top row changed",
     "sheet: factor changed below k",
     "sheet: factor changed from k up",
-    "sheet: cofactor changed below k",
-    "sheet: cofactor changed from k up",
+    "sheet: two factors of one power exchanged",
     "sheet: a word past the end changed",
     "sheet: cut short",
     "sheet: shortened to fewer terms",
     "sheet: k raised over columns of zeros",
     "sheet: a factor's part as a row polynomial",
+    "extend: a right sheet, w is 0 or above N",
+    "extend: a right sheet, w is k − 1",
+    "extend: T − 1 words, any w",
+    "extend: a factor wrong below k, w = k",
+    "extend: a factor wrong below k, w > k",
+    "extend: a factor wrong from k up, w = k",
+    "extend: a factor wrong from k up, w > k",
+    "extend: a factor wrong in column k − 1, w is refused too",
+    "old layout: a stored sheet of one or two roots",
+    "old layout: a stored sheet of three roots or more",
+    "old layout: a fresh sheet of one or two roots",
+    "old layout: a fresh sheet of three roots or more",
 ];
 
 #[derive(Default)]
@@ -167,7 +185,7 @@ impl Report {
         println!("\nCases of each kind among them:\n");
         for kind in KINDS {
             let count = self.kinds.get(kind).copied().unwrap_or(0);
-            println!("  {kind:<50} {count:>8}");
+            println!("  {kind:<58} {count:>8}");
             complete &= count > 0;
         }
         let calls = self.outcomes.iter().filter(|((name, _), _)| *name != LINE);

@@ -1,5 +1,6 @@
 //! Factor sheets: opened, worked on in goes, read, and damaged word by word.
 
+use crate::old_layout;
 use crate::polynomials::{self, Given};
 use crate::random::Random;
 use crate::report::{engine, second, Called, Report};
@@ -59,6 +60,11 @@ fn spoil(random: &mut Random, given: &mut Given, fault: Fault) {
     }
 }
 
+/// T of the sheet: ten header words, roots with powers, D + 1 rows of the polynomial and D of the factors.
+fn total(given: &Given) -> u32 {
+    10 + 2 * given.roots.len() as u32 + (2 * given.d + 1) * given.n
+}
+
 fn open(report: &mut Report, given: &Given, out: &[u32]) -> Called<u32> {
     let Given { p, d, n, f, roots } = given;
     let (p, d, n) = (*p, *d, *n);
@@ -66,11 +72,11 @@ fn open(report: &mut Report, given: &Given, out: &[u32]) -> Called<u32> {
     report.call("sheet open", input, out, |o| engine(e::open(p, d, n, f, roots, o)), |o| second(s::open(p, d, n, f, roots, o)))
 }
 
-fn extend(report: &mut Report, sheet: &[u32], w: u32) -> Called<u32> {
+pub fn extend(report: &mut Report, sheet: &[u32], w: u32) -> Called<u32> {
     report.call("sheet extend", || format!("w {w}"), sheet, |o| engine(e::extend(o, w)), |o| second(s::extend(o, w)))
 }
 
-fn test(report: &mut Report, sheet: &[u32]) -> bool {
+pub fn test(report: &mut Report, sheet: &[u32]) -> bool {
     let called = report.call("sheet test", String::new, sheet, |o| Ok(e::test(o) as u32), |o| Ok(s::test(o) as u32));
     called.outcome == Ok(1)
 }
@@ -82,11 +88,18 @@ fn read(random: &mut Random, report: &mut Report, sheet: &[u32], i: u32) {
     report.call("sheet factor", || format!("i {i} sheet {sheet:?}"), &out, |o| engine(e::factor(sheet, i, o)), |o| second(s::factor(sheet, i, o)));
 }
 
-/// Enough junk for the sheet, and some words more.
-fn opened(random: &mut Random, report: &mut Report, given: &Given) -> Vec<u32> {
-    let (_, total) = open(report, given, &[]).outcome.expect_err("no sheet fits 0 words");
+/// A fresh sheet and perhaps some words more; T words are enough for it, and T − 1 are not.
+pub fn opened(random: &mut Random, report: &mut Report, given: &Given) -> Vec<u32> {
+    let total = total(given);
     let more = random.below(4);
-    open(report, given, &random.junk((total + more) as usize)).words
+    let out = random.junk((total + more) as usize);
+    let short = open(report, given, &out[..total as usize - 1]).outcome;
+    let exact = open(report, given, &out[..total as usize]).outcome;
+    let sheet = open(report, given, &out).words;
+    report.expect(short == Err((10, total)) && exact == Ok(total), &format!("a sheet takes {total} words: {sheet:?}"));
+    report.expect(sheet[8..10] == [total, total], &format!("header words 8 and 9 are {total}: {sheet:?}"));
+    report.kind("sheet: opened into T − 1 words and into T");
+    sheet
 }
 
 fn opening(random: &mut Random, report: &mut Report) {
@@ -195,28 +208,39 @@ fn part(random: &mut Random, report: &mut Report, sheet: &[u32]) {
 
 /// Where a word of a sheet stands.
 fn region(sheet: &[u32], at: usize) -> &'static str {
-    let [_, _, n, k, r, roots, polynomial, factors, cofactors, total] = sheet[..10] else { unreachable!("ten words") };
+    let [_, d, n, k, _, roots, polynomial, factors, _, total] = sheet[..10] else { unreachable!("ten words") };
     let at = at as u32;
     let known = |from: u32| (at - from) % n < k;
     match at {
-        _ if at < roots => "sheet: header word changed",
-        _ if at < roots + 2 * r => ["sheet: root changed", "sheet: power changed"][(at - roots) as usize % 2],
-        _ if at < factors => ["sheet: polynomial changed from k up", "sheet: polynomial changed below k"][known(polynomial) as usize],
-        _ if at < cofactors => ["sheet: factor changed from k up", "sheet: factor changed below k"][known(factors) as usize],
-        _ if at < total => ["sheet: cofactor changed from k up", "sheet: cofactor changed below k"][known(cofactors) as usize],
+        0 | 3 => "sheet: p or k changed",
+        8 => "sheet: header word 8 changed",
+        9 => "sheet: header word 9 changed",
+        _ if at < roots => "sheet: D, N, r or an offset changed",
+        _ if at < polynomial => ["sheet: root changed", "sheet: power changed"][(at - roots) as usize % 2],
+        _ if at < polynomial + d * n => ["sheet: polynomial changed from k up", "sheet: polynomial changed below k"][known(polynomial) as usize],
+        _ if at < factors => "sheet: top row changed",
+        _ if at < total => ["sheet: factor changed from k up", "sheet: factor changed below k"][known(factors) as usize],
         _ => "sheet: a word past the end changed",
+    }
+}
+
+/// Whether a sound sheet is still sound with another word in this region, where that does not depend on the other words.
+fn verdict(region: &str, p: u32, word: u32) -> Option<bool> {
+    match region {
+        "sheet: p or k changed" => None,
+        "sheet: polynomial changed from k up" => Some(word < p),
+        "sheet: a word past the end changed" => Some(true),
+        _ => Some(false),
     }
 }
 
 /// A place in a region chosen first, so that small regions come up as often as large ones.
 fn place(random: &mut Random, sheet: &[u32]) -> usize {
-    let mut edges = vec![0];
-    edges.extend([sheet[5], sheet[6], sheet[7], sheet[8], sheet[9]].map(|edge| edge as usize));
-    edges.push(sheet.len());
+    let edges = [0, sheet[5], sheet[6], sheet[7], sheet[9], sheet.len() as u32];
     loop {
-        let i = random.below(6) as usize;
+        let i = random.below(5) as usize;
         if edges[i] < edges[i + 1] {
-            return random.within(edges[i] as u32, edges[i + 1] as u32 - 1) as usize;
+            return random.within(edges[i], edges[i + 1] - 1) as usize;
         }
     }
 }
@@ -224,9 +248,18 @@ fn place(random: &mut Random, sheet: &[u32]) -> usize {
 fn judge_changed(random: &mut Random, report: &mut Report, changed: &[u32]) -> bool {
     let sound = test(report, changed);
     let w = random.below(changed.get(2).map_or(4, |n| n.wrapping_add(2)).max(1));
-    extend(report, changed, w);
+    let spoiled = extend(report, changed, w).outcome == Err((13, 0));
+    report.expect(sound != spoiled, &format!("extend refuses 13 where test says no, and only there: {changed:?}"));
     let i = random.below(4);
     read(random, report, changed, i);
+    sound
+}
+
+/// A changed sheet, of which it may be known whether it is sound.
+fn judge_as(random: &mut Random, report: &mut Report, changed: &[u32], expected: Option<bool>, kind: &'static str) -> bool {
+    let sound = judge_changed(random, report, changed);
+    report.expect(sound == expected.unwrap_or(sound), &format!("{kind}, so {sound} is the wrong verdict: {changed:?}"));
+    report.kind(kind);
     sound
 }
 
@@ -240,19 +273,45 @@ fn change_a_word(random: &mut Random, report: &mut Report, sheet: &[u32]) {
         return;
     }
     let region = region(sheet, at);
-    report.kind(region);
-    match (region, judge_changed(random, report, &changed)) {
-        ("sheet: header word changed", true) => report.kind("sheet: header word changed, still sound"),
+    match (region, judge_as(random, report, &changed, verdict(region, p, changed[at]), region)) {
+        ("sheet: p or k changed", true) => report.kind("sheet: p or k changed, still sound"),
         ("sheet: polynomial changed from k up", true) => report.kind("sheet: polynomial changed from k up, still sound"),
         _ => {}
     }
 }
 
+/// Header words 8 and 9 are both T: another number in one of them, or the same one in both.
+fn change_total(random: &mut Random, report: &mut Report, sheet: &[u32]) {
+    let (n, total, length) = (sheet[2], sheet[9], sheet.len() as u32);
+    let other = random.pick(&[total - 1, total + 1, total - n, total + n, length + 1, 0, u32::MAX]);
+    let (places, kind): (&[usize], _) = random.pick(&[
+        (&[8][..], "sheet: header word 8 changed"),
+        (&[9][..], "sheet: header word 9 changed"),
+        (&[8, 9][..], "sheet: header words 8 and 9 changed alike"),
+    ]);
+    let mut changed = sheet.to_vec();
+    places.iter().for_each(|&at| changed[at] = other);
+    judge_as(random, report, &changed, Some(false), kind);
+}
+
+/// Two factors of one power exchanged, with their roots or without: the product is still f, but roots do not rise or factors stand by other roots.
+fn exchange_factors(random: &mut Random, report: &mut Report, sheet: &[u32]) {
+    let (n, r, factors) = (sheet[2], sheet[4] as usize, sheet[7]);
+    let power = |i: usize| sheet[11 + 2 * i];
+    let rows = |i: usize| (0..i).map(power).sum::<u32>() * n + factors;
+    let Some(i) = (1..r).find(|&i| power(i) == power(0)) else { return };
+    let mut changed = sheet.to_vec();
+    (0..power(0) * n).for_each(|at| changed.swap((rows(0) + at) as usize, (rows(i) + at) as usize));
+    if random.once_in(2) {
+        changed.swap(10, 10 + 2 * i);
+    }
+    judge_as(random, report, &changed, Some(false), "sheet: two factors of one power exchanged");
+}
+
 fn cut_short(random: &mut Random, report: &mut Report, sheet: &[u32]) {
     let total = sheet[9];
     let length = random.pick(&[0, 9, 10, 11, 10 + 2 * sheet[4], total - 1, total / 2, total]);
-    judge_changed(random, report, &sheet[..length as usize]);
-    report.kind("sheet: cut short");
+    judge_as(random, report, &sheet[..length as usize], Some(length == total), "sheet: cut short");
 }
 
 /// A sheet with fewer terms, its later columns cleared, is sound; without clearing, as a rule not.
@@ -295,6 +354,9 @@ fn life_of_a_sheet(random: &mut Random, report: &mut Report, given: &Given, chan
     for _ in 0..changes {
         change_a_word(random, report, &sheet);
     }
+    change_total(random, report, &sheet);
+    exchange_factors(random, report, &sheet);
+    old_layout::fresh(report, &sheet);
     cut_short(random, report, &sheet);
     shorten(random, report, &sheet);
 }

@@ -171,21 +171,8 @@ def factors(p,D,n,f,roots,powers,k):
 def sheet(p,D,n,f,roots,powers,k):
     fac=factors(p,D,n,f,roots,powers,k); r=len(roots)
     fr=[fac[i][t][j] if t<k else 0 for i in range(r) for j in range(powers[i]) for t in range(n)]
-    cr=[]
-    for i in range(r-2):
-        deg=sum(powers[i+1:])
-        P=[[1]]+[[0] for _ in range(n-1)]
-        for g in fac[i+1:]:
-            Q=[[0]*(deg+1) for _ in range(n)]
-            for s in range(n):
-                for u in range(n-s):
-                    for a,x in enumerate(P[s]):
-                        for b,y in enumerate(g[u]):
-                            if a+b<=deg: Q[s+u][a+b]=(Q[s+u][a+b]+x*y)%p
-            P=Q
-        cr+=[P[t][j] if t<k else 0 for j in range(deg) for t in range(n)]
-    o6=10+2*r; o7=o6+(D+1)*n; o8=10+2*r+(2*D+1)*n; T=o8+len(cr)
-    return [p,D,n,k,r,10,o6,o7,o8,T]+sum(([c,m] for c,m in zip(roots,powers)),[])+f+fr+cr
+    o6=10+2*r; o7=o6+(D+1)*n; T=o7+len(fr)
+    return [p,D,n,k,r,10,o6,o7,T,T]+sum(([c,m] for c,m in zip(roots,powers)),[])+f+fr
 def compositions(D,r):
     if r==0: return [[]] if D==0 else []
     return [[m]+rest for m in range(1,D+1) for rest in compositions(D-m,r-1)]
@@ -228,8 +215,8 @@ print("done 10:",*answers)
 print("",*(sheet(*job,3)+[99]))
 print("refused 5 0:",*answers)
 print("refused 10 10:",*[9]*9)
-opens(*three[:5],[9]*64)
-s=sheet(*three,4)
+opens(*three[:5],[9]*53)
+s=sheet(*three,4)+[9]
 print("done 4:",*s); print("sound")
 shifted=[9]*9
 rowshift(5,1,4,s[40:48],3,shifted)

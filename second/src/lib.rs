@@ -1,4 +1,5 @@
-//! Document 01 once more, written from its text alone and by other methods than the engine's, so that a slip of one is not a slip of both.
+//! Document 01 once more, with the sheet as document 02's F-8 has it: written from their text alone and by other methods than the engine's, so that a slip
+//! of one is not a slip of both.
 //!
 //! | | engine | here |
 //! |---|---|---|
@@ -7,8 +8,8 @@
 //! | inverse of a series | column after column | Newton's doubling |
 //! | shift | weights from binomials | Horner over row polynomials |
 //! | powers of the roots | repeated division by Y − c | the order of f(Y + c), then multiplied back |
-//! | pair, factors | a chain of two-factor splits, each by synthetic division | one linear system for each column, over the unknowns of all factors at once |
-//! | soundness | stage after stage, link after link | the definitions: everything is multiplied out |
+//! | pair, factors | two-factor splits, for the factors along a tree, each by synthetic division | one linear system for each column, over all unknowns at once |
+//! | soundness | splits once more and compares | the definitions: everything is multiplied out |
 //!
 //! Every operation has the arguments of the C interface (`include/bopkheul.h`), and answers `Ok(answer)` or `Err(refusal)`.
 //! It is written to be read, not to be fast.

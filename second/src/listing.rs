@@ -50,7 +50,7 @@ fn factor_text(words: &[u32], n: usize, i: u32) -> Result<String, Refusal> {
 /// Opens, and extends to N terms.
 fn worked(job: &Job) -> Result<String, Refusal> {
     let (roots, rows) = job.rest.split_at(job.r as usize);
-    let mut words = vec![0; 16384];
+    let mut words = vec![0; 10 + 2 * 12 + 25 * 64]; // the largest sheet of a job: 12 roots, degree 12, 64 columns
     let total = sheet::open(job.p, job.d, job.n, rows, roots, &mut words)?;
     words.truncate(total as usize);
     sheet::extend(&mut words, job.n)?;

@@ -72,16 +72,6 @@ pub fn product_of_all(p: u64, n: usize, factors: &[Polynomial]) -> Polynomial {
     factors.iter().fold(vec![constant(1, n)], |all, f| product(p, &all, f))
 }
 
-/// The products of factors i, i + 1, .. for each i.
-pub fn tail_products(p: u64, n: usize, factors: &[Polynomial]) -> Vec<Polynomial> {
-    let mut tails = vec![vec![constant(1, n)]];
-    for f in factors.iter().rev() {
-        tails.push(product(p, &tails[tails.len() - 1], f));
-    }
-    tails.reverse();
-    tails
-}
-
 /// f(Y + c), by Horner: from the top row down, times Y + c and plus the next row.
 pub fn shift(p: u64, f: &[Series], c: u64) -> Polynomial {
     let n = f[0].len();

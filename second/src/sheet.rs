@@ -6,8 +6,8 @@
 use crate::field::{least_divisor, sub};
 use crate::linear::{apply, invert, Matrix};
 use crate::polynomial::{
-    at_zero, column, constant, cut, line_power, lower_words, polynomial, product_column, product_of_all, series, set_column, shift, tail_products,
-    truncated, words, Polynomial,
+    at_zero, column, constant, cut, line_power, lower_words, polynomial, product_column, product_of_all, series, set_column, shift, truncated, words,
+    Polynomial,
 };
 use crate::refusal::{beyond, composite, judge, length, modulus_range, short, terms, unreduced, when, Answer, Refusal};
 
@@ -24,25 +24,15 @@ struct Sheet {
     f: Polynomial,
     /// With their leading 1.
     factors: Vec<Polynomial>,
-    /// Cofactors 1 to r − 2, with their leading 1.
-    cofactors: Vec<Polynomial>,
 }
 
-/// The degrees of cofactors 1 to r − 2.
-fn cofactor_degrees(powers: &[usize]) -> Vec<usize> {
-    (1..powers.len().saturating_sub(1)).map(|i| powers[i..].iter().sum()).collect()
-}
-
-/// The ten header words.
+/// The ten header words. Word 8 was where cofactors began, and is now the total too.
 fn header(p: u32, n: usize, k: usize, powers: &[usize]) -> [u32; HEADER] {
     let (d, r) = (powers.iter().sum::<usize>(), powers.len());
-    let cofactor_rows: usize = cofactor_degrees(powers).iter().sum();
-    let roots = HEADER;
-    let rows = roots + 2 * r;
+    let rows = HEADER + 2 * r;
     let factors = rows + (d + 1) * n;
-    let cofactors = factors + d * n;
-    let total = cofactors + cofactor_rows * n;
-    [p, d as u32, n as u32, k as u32, r as u32, roots as u32, rows as u32, factors as u32, cofactors as u32, total as u32]
+    let total = factors + d * n;
+    [p, d as u32, n as u32, k as u32, r as u32, HEADER as u32, rows as u32, factors as u32, total as u32, total as u32]
 }
 
 /// Roots and powers, where header words 1 to 4 and the powers are in their ranges.
@@ -65,7 +55,7 @@ impl Sheet {
         let mut all = header(self.p, self.n, self.k, &self.powers()).to_vec();
         all.extend(self.roots.iter().flat_map(|&(c, m)| [c, m]));
         all.extend(words(&self.f));
-        all.extend(self.factors.iter().chain(&self.cofactors).flat_map(|g| lower_words(g)));
+        all.extend(self.factors.iter().flat_map(|a| lower_words(a)));
         all
     }
 
@@ -81,10 +71,8 @@ impl Sheet {
         }
         let mut rows = s.get(header[6] as usize..header[9] as usize)?.chunks(n).map(series);
         let f = rows.by_ref().take(d as usize + 1).collect();
-        let mut monic = |degree: usize| -> Polynomial { rows.by_ref().take(degree).chain([constant(1, n)]).collect() };
-        let factors = powers.iter().map(|&m| monic(m)).collect();
-        let cofactors = cofactor_degrees(&powers).into_iter().map(monic).collect();
-        Some(Sheet { p, n, k, roots, f, factors, cofactors })
+        let factors = powers.iter().map(|&m| rows.by_ref().take(m).chain([constant(1, n)]).collect()).collect();
+        Some(Sheet { p, n, k, roots, f, factors })
     }
 
     /// The conditions of document 01 that speak of numbers: everything is multiplied out, modulo X^k.
@@ -100,7 +88,7 @@ impl Sheet {
             && self.roots.iter().all(|&(c, _)| c < p)
             && self.roots.windows(2).all(|pair| pair[0].0 < pair[1].0)
             && below(&self.f)
-            && self.factors.iter().chain(&self.cofactors).all(below)
+            && self.factors.iter().all(below)
     }
 
     fn is_monic(&self) -> bool {
@@ -114,27 +102,19 @@ impl Sheet {
     }
 
     fn ends_with_zeros(&self) -> bool {
-        self.factors.iter().chain(&self.cofactors).all(|g| cut(g, self.k) == *g)
+        self.factors.iter().all(|a| cut(a, self.k) == *a)
     }
 
     fn multiplies_out(&self) -> bool {
         let known: Vec<Polynomial> = self.factors.iter().map(|a| truncated(a, self.k)).collect();
-        let tails = tail_products(self.p as u64, self.k, &known);
-        tails[0] == truncated(&self.f, self.k) && self.cofactors.iter().zip(&tails[1..]).all(|(g, tail)| truncated(g, self.k) == *tail)
+        product_of_all(self.p as u64, self.k, &known) == truncated(&self.f, self.k)
     }
 
     /// To w terms.
     fn extend(&mut self, w: usize) {
         lift(self.p as u64, &self.f, &mut self.factors, self.k, w);
         self.k = w;
-        self.cofactors = cofactors(self.p, self.n, &self.factors, w);
     }
-}
-
-/// Cofactors 1 to r − 2 to k terms: cofactor i is the product of factors i + 1 to r.
-fn cofactors(p: u32, n: usize, factors: &[Polynomial], k: usize) -> Vec<Polynomial> {
-    let tails = tail_products(p as u64, n, factors);
-    (1..factors.len().saturating_sub(1)).map(|i| cut(&tails[i], k)).collect()
 }
 
 /// (Y − c_i)^(m_i) for each root.
@@ -228,8 +208,7 @@ pub fn open(p: u32, d: u32, n: u32, f: &[u32], roots: &[u32], out: &mut [u32]) -
     ])?;
     let roots = powers(p, &f, roots).expect("judged");
     let factors = starting_factors(p, n, &roots);
-    let cofactors = cofactors(p, n, &factors, 1);
-    let all = Sheet { p, n, k: 1, roots, f, factors, cofactors }.words();
+    let all = Sheet { p, n, k: 1, roots, f, factors }.words();
     judge(&[(10, &|| short(out, all.len()))])?;
     out[..all.len()].copy_from_slice(&all);
     Ok(all.len() as u32)

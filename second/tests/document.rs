@@ -1,4 +1,4 @@
-//! The examples of document 01.
+//! The examples of document 01, and the sheet of F-8.
 
 use second::{listing, numbers, pair, sheet, Refusal};
 
@@ -65,4 +65,64 @@ fn a_list_of_calls_is_the_plain_count() {
     assert_eq!(sheet::replay(&mut words, &lent, &w, &mut answers), Ok(10));
     assert_eq!(answers[..10], [0, 2, 13, 0, 15, 0, 14, 0, 0, 3]);
     assert_eq!(sheet::plain_count(29, 3, &lent, &w), (answers[..10].to_vec(), 3));
+}
+
+/// Y³ − 1 − X modulo 7: at X = 0 its roots are 1, 2 and 4.
+const CUBIC: [u32; 8] = [6, 6, 0, 0, 0, 0, 1, 0];
+
+fn opened_cubic() -> [u32; 30] {
+    let mut words = [9; 30];
+    assert_eq!(sheet::open(7, 3, 2, &CUBIC, &[1, 2, 4], &mut words), Ok(30));
+    words
+}
+
+#[test]
+fn a_sheet_of_three_roots() {
+    let mut words = opened_cubic();
+    assert_eq!(words[..10], [7, 3, 2, 1, 3, 10, 16, 24, 30, 30]);
+    assert_eq!(sheet::extend(&mut words, 2), Ok(2));
+    // a root c moves by X / 3c²: by 5X, 3X and 6X
+    assert_eq!(words[24..], [6, 2, 5, 4, 3, 1]);
+    let mut part = [0; 4];
+    assert_eq!(sheet::factor(&words, 2, &mut part), Ok(4));
+    assert_eq!(part, [4, 1, 28, 2]);
+}
+
+#[test]
+fn one_word_less() {
+    let mut words = opened_cubic();
+    assert_eq!(sheet::open(7, 3, 2, &CUBIC, &[1, 2, 4], &mut words[..29]), refused(10, 30));
+    assert_eq!(sheet::extend(&mut words[..29], 2), refused(13, 0));
+}
+
+#[test]
+fn words_8_and_9_are_the_total() {
+    let longer = [&opened_cubic()[..], &[0; 4]].concat();
+    assert!(sheet::test(&longer));
+    for (word_8, word_9) in [(29, 30), (31, 30), (30, 29), (30, 31), (29, 29), (34, 34), (0, 0)] {
+        let mut changed = longer.clone();
+        (changed[8], changed[9]) = (word_8, word_9);
+        assert!(!sheet::test(&changed), "{word_8} {word_9}");
+    }
+}
+
+#[test]
+fn document_01_s_sheet_of_three_roots_is_spoiled() {
+    let mut old = opened_cubic().to_vec();
+    old.extend([1, 0, 1, 0]); // (Y − 2)(Y − 4) is Y² + Y + 1
+    old[9] = 34;
+    assert!(!sheet::test(&old));
+    assert_eq!(sheet::extend(&mut old, 2), refused(13, 0));
+    old[9] = 30;
+    assert!(sheet::test(&old), "words past the end are free");
+}
+
+#[test]
+fn a_wrong_column_comes_before_w() {
+    let mut words = opened_cubic();
+    sheet::extend(&mut words, 2).unwrap();
+    words[25] += 1;
+    for w in [0, 1, 2, 3] {
+        assert_eq!(sheet::extend(&mut words, w), refused(13, 0));
+    }
 }

@@ -1,4 +1,22 @@
 //! Factor sheets: a polynomial, its roots at X = 0 with their powers, and its Hensel factors to so many terms, in words that may be stored and lent on.
+//!
+//! A sheet with r factors takes exactly 10 + 2r + (2d + 1)n words:
+//!
+//! | From word | |
+//! |---|---|
+//! | 0 | p, d, n, the terms worked, r, the offsets of the next three parts, and twice the total of words |
+//! | 10 | root and power of each factor |
+//! | 10 + 2r | the d + 1 rows of the polynomial |
+//! | 10 + 2r + (d + 1)n | the rows of the factors below their leading 1, d together; columns from the terms worked up are 0 |
+//!
+//! Words past the total are free.
+//!
+//! ```
+//! // Y³ − 1 − X modulo 7 with two columns; at X = 0 its roots are 1, 2 and 4.
+//! let sheet = bopkheul::Sheet::open(7, 3, 2, &[6, 6, 0, 0, 0, 0, 1, 0], &[1, 2, 4])?;
+//! assert_eq!(sheet.words().len(), 10 + 2 * 3 + 7 * 2);
+//! # Ok::<(), bopkheul::Refusal>(())
+//! ```
 
 use crate::raw::{answer, bk_sheet_extend, bk_sheet_factor, bk_sheet_open, bk_sheet_replay, bk_sheet_test};
 use crate::{Answer, Refusal};
@@ -68,7 +86,8 @@ impl Sheet {
         Ok(Sheet { words })
     }
 
-    /// A sheet from words that were stored: refused by 13 where they are not sound. Words past the sheet's end are kept.
+    /// A sheet from words that were stored: refused by 13 where they are not sound, as where a sheet of three roots or more holds cofactors too, which an
+    /// earlier layout had. Words past the sheet's end are kept.
     pub fn from_words(words: Vec<u32>) -> Result<Sheet, Refusal> {
         if test(&words) {
             Ok(Sheet { words })

@@ -3,6 +3,7 @@ pub mod Ring
 pub mod Series
 pub mod Poly
 pub mod Split
+pub mod Solution
 pub mod Multiplicity
 pub mod Columns
 pub mod Lift

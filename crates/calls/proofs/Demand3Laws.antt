@@ -17,11 +17,10 @@ use lib.Dec.{ltb}
 use lib.ListN.{length, take, drop, length-append, length-drop, take-append-drop, List·getD-append}
 use lib.Seq.{ext-getD, getD-take, getD-drop, length-take-le, getD-append-add}
 use Rattle.numbers.specs.Words.{word, choose}
-use Rattle.numbers.specs.Refusals.{refusal, Outcome, accepted, refused, result}
+use Rattle.numbers.specs.Refusals.{refusal, Outcome, accepted, refused, result, Leaves}
 use Rattle.numbers.specs.declared.refusal.Verdict.{Verdict}
 use Rattle.numbers.specs.declared.refusal.Verdict.the-variants.{Pass, Refuse}
 use Rattle.numbers.proofs.WordsLaws.{lt-or-ge}
-use Rattle.pair.specs.Pair.{Leaves}
 use Rattle.sheet.specs.Layout.{modulus, end}
 use Rattle.sheet.specs.Sheet.{Sound, Given, Holds}
 use Rattle.open.specs.Open.{needed, openVerdict, OpenDone, Opened}

@@ -17,14 +17,13 @@ use lib.Dec.{ltb, leb, eqb}
 use lib.ListN.{length, take, drop, set, length-append, length-take, length-drop}
 use lib.Seq.{length-take-le}
 use Rattle.numbers.specs.Words.{word, lowWord, over}
-use Rattle.numbers.specs.Refusals.{check, judge, refusal, Outcome, accepted, refused, result}
+use Rattle.numbers.specs.Refusals.{check, judge, refusal, Outcome, accepted, refused, result, Leaves}
 use Rattle.numbers.specs.declared.refusal.Refusal.{Refusal}
 use Rattle.numbers.specs.declared.refusal.Verdict.{Verdict}
 use Rattle.numbers.specs.declared.refusal.Verdict.the-variants.{Pass, Refuse}
 use Rattle.numbers.proofs.WordsLaws.{Writing, writing-none, writing-store}
 use Rattle.numbers.proofs.TestsLaws.{allTo-at}
 use Rattle.numbers.proofs.RefusalsLaws.{take-check, skip-check, none-judged, pass-check}
-use Rattle.pair.specs.Pair.{Leaves}
 use Rattle.sheet.specs.Sheet.{Given}
 use Rattle.open.specs.Open.{Opened}
 use Rattle.lift.specs.Extend.{Extended, extendVerdict, ExtendDone}

@@ -14,7 +14,7 @@ use lib.Dec.{ltb}
 use lib.ListN.{length, take, drop}
 use Rattle.numbers.specs.Words.{choose, outside}
 use Rattle.numbers.specs.Refusals.{Outcome, accepted, refused}
-use Rattle.sheet.specs.Factors.{SameFactors, SamePolynomial}
+use Rattle.split.specs.Factors.{SameFactors, SamePolynomial}
 use Rattle.sheet.specs.Layout.{count, root, power, factor, end}
 use Rattle.sheet.specs.Sheet.{Given, given-polynomial, Holds}
 use Rattle.open.specs.Open.{Opened}

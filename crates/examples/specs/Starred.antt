@@ -11,9 +11,9 @@ use Rattle.numbers.specs.Words.{firstWhere, firstLarge, allTo, all}
 use Rattle.numbers.specs.Divisor.{leastDivisor}
 use Rattle.numbers.specs.Refusals.{judge, refusal, modulusChecks}
 use Rattle.numbers.specs.declared.refusal.Verdict.the-variants.{Pass, Refuse}
-use Rattle.rows.specs.Rows.{rowsOf, mul, linePower}
-use Rattle.pair.specs.Pair.{monic, orderOf, order, pairChecks, rowsBelow, productTest, pairTest}
-use Rattle.sheet.specs.Factors.{product}
+use Rattle.rows.specs.Rows.{rowsOf, mul, linePower, monic}
+use Rattle.pair.specs.Pair.{orderOf, order, pairChecks, rowsBelow, productTest, pairTest}
+use Rattle.split.specs.Factors.{product}
 use Rattle.sheet.specs.Sheet.{primeTest, factorsTest, headerTest, bodyTest, soundTest, Given}
 use Rattle.open.specs.Open.{upwards, choices, find, splitsTest, powersOf, needed, openVerdict}
 use Rattle.lift.specs.Extend.{extendVerdict}

@@ -233,7 +233,7 @@ fn shift_of_factor(s: &[u32], i: u32, p: u32, d: u32, n: u32, by: u32, out: &mut
     rows::shift(p, d, n, sheet::factor_rows(s, i), by, out)
 }
 
-// Y (Y − 1)² (Y − 3) over 5 at X = 0, four terms: a double root, a cofactor, and p barely above the degree.
+// Y (Y − 1)² (Y − 3) over 5 at X = 0, four terms: a double root, and p barely above the degree.
 fn three_roots() {
     let f = [
         0u32,
@@ -258,7 +258,7 @@ fn three_roots() {
         0,
     ];
     let roots = [0u32, 1, 3];
-    let mut s = [9u32; 64];
+    let mut s = [9u32; 53];
     say_words(open::open(5, 4, 4, &f, &roots, &mut s), &s);
     say_words(lift::extend(&mut s, 4), &s);
     say_test(&s);
@@ -266,11 +266,11 @@ fn three_roots() {
     let mut shifted = [9u32; 9];
     say_words(shift_of_factor(&s, 1, 5, 1, 4, 3, &mut shifted), &shifted);
     say_words(shift_of_factor(&s, 3, 5, 1, 4, 3, &mut shifted), &shifted);
-    // more terms than columns; a word of the cofactor changed
+    // more terms than columns; the last word of the factors changed
     s[3] = 5;
     say_test(&s);
     s[3] = 4;
-    s[63] = 1;
+    s[51] = 1;
     say_test(&s);
 }
 

@@ -12,11 +12,10 @@ use mathlib.Core.List.{List, [], _∷_}
 use borrow.Author.Tests.{ltb-false, lt-ltb, le-ltb, not-false}
 use lib.Dec.{ltb}
 use Rattle.numbers.specs.Words.{outside}
-use Rattle.numbers.specs.Refusals.{check, judge, refusal, Outcome, result}
+use Rattle.numbers.specs.Refusals.{check, judge, refusal, result, Leaves}
 use Rattle.numbers.specs.declared.refusal.Verdict.{Verdict}
 use Rattle.numbers.specs.declared.refusal.Verdict.the-variants.{Pass, Refuse}
 use Rattle.numbers.proofs.RefusalsLaws.{One, none-judged, inside, pass-check, take-check, skip-check}
-use Rattle.pair.specs.Pair.{Leaves}
 use Rattle.sheet.specs.Layout.{terms, width}
 use Rattle.sheet.specs.Sheet.{Sound, soundTest}
 use Rattle.sheet.proofs.SoundTestLaws.{sound-test}

@@ -8,18 +8,18 @@
 use Prim.Native.Nat.{ℕ, zero, suc, _+_, _-_, _*_, _%_, _≤_, _<_}
 use native.Mathlib.Nat.{mul-add-mod-self-right, mod-eq-of-lt}
 use native.Mathlib.Omega.{arith}
-use mathlib.Core.Path.{_≡_, refl, sym, _∙_, ap, ap₂, subst}
+use mathlib.Core.Path.{_≡_, refl, sym, _∙_, ap, ap₂}
 use mathlib.Core.Logic.{_≢_, _⊎_, inl, inr, ⊎-elim}
 use mathlib.Core.List.{List}
 use lib.ListN.{length, drop, List·getD-append}
 use lib.Seq.{ext-getD}
 use Rattle.numbers.specs.Words.{word, over}
 use Rattle.numbers.proofs.WordsLaws.{lt-or-ge, length-over, over-past}
-use Rattle.sheet.specs.Layout.{degree, width, terms, count, factorsFrom, cofactorsFrom, root, power, end, polynomial, factorRows, cofactorRows}
+use Rattle.sheet.specs.Layout.{degree, width, terms, count, factorsFrom, root, power, end, polynomial, factorRows}
 use Rattle.sheet.specs.Sheet.{Sound, Given, Holds}
 use Rattle.lift.specs.Extend.{InColumns, ExtendDone}
 use Rattle.sheet.proofs.RegionsLaws.{in-rows, by-region}
-use Rattle.sheet.proofs.ContentLaws.{Content, contentOf, corows, headerWords, sheetWords, word-header, word-root, word-power, word-polynomial, word-factors, word-cofactors, length-sheet, SameContent}
+use Rattle.sheet.proofs.ContentLaws.{Content, contentOf, headerWords, sheetWords, word-header, word-root, word-power, word-polynomial, word-factors, length-sheet, SameContent}
 use Rattle.sheet.proofs.SheetsLaws.{Good, sound-good, sound-words, words-content, words-sound}
 use Rattle.sheet.proofs.UniqueLaws.{good-unique, sound-unique}
 use Rattle.sheet.proofs.BuildLaws.{cut, cut-low, cut-high, Ready, good-ready, solved, solved-good}
@@ -81,7 +81,7 @@ module _ (old : List ℕ) (h : Sound old) (w : ℕ) where
     old-same = good-unique c (with-terms (terms old)) (sound-good old h) (with-good (terms old) (h .terms-low) (h .terms-high)) refl refl refl refl (λ j t l g. refl)
 
     -- a column that extend may not touch
-    untouched : (q t : ℕ) → t < width old → first + q * width old + t < end old → ¬ InColumns old w (first + q * width old + t) → (t < terms old) ⊎ (w ≤ t)
+    pub untouched : (q t : ℕ) → t < width old → first + q * width old + t < end old → ¬ InColumns old w (first + q * width old + t) → (t < terms old) ⊎ (w ≤ t)
     untouched q t l g nc =
         let e : (first + q * width old + t - first) % width old ≡ t
         = ap (λ x. x % width old) (let y : first + q * width old + t - first ≡ q * width old + t = omega arith in y) ∙ mul-add-mod-self-right q (width old) t ∙ mod-eq-of-lt l in
@@ -104,19 +104,12 @@ module _ (old : List ℕ) (h : Sound old) (w : ℕ) where
     kept-factors j l t v ne nc g =
         word-factors (with-terms w) j t l v ∙ cut-same (terms old) w _ j t (factorRows old j t) low (untouched j t v g nc) (old-same .factors j t l v)
 
-    kept-cofactors : (j : ℕ) → j < corows c → (t : ℕ) → t < width old → Kept (cofactorsFrom (degree old) (width old) (count old) + j * width old + t)
-    unfolding solved
-    kept-cofactors j l t v ne nc g =
-        let e : cofactorsFrom (degree old) (width old) (count old) + j * width old + t ≡ first + (degree old + j) * width old + t = omega arith in
-        word-cofactors (with-terms w) j t l v
-        ∙ cut-same (terms old) w _ j t (cofactorRows old j t) low (untouched (degree old + j) t v (subst (λ x. x < end old) e g) (λ x. nc (subst (InColumns old w) (sym e) x))) (old-same .cofactors j t l v)
-
     kept : (i : ℕ) → i < end old → Kept i
     unfolding solved
-    kept = by-region Kept (degree old) (width old) (count old) (corows c) (ready .width-low)
+    kept = by-region Kept (degree old) (width old) (count old) (ready .width-low)
         (λ i l ne nc g. word-header (with-terms w) i l ∙ header i ne ∙ sym (sound-words old h i g ∙ word-header c i l))
         (λ i l ne nc g. word-root (with-terms w) i l) (λ i l ne nc g. word-power (with-terms w) i l) (λ j l t v ne nc g. word-polynomial (with-terms w) j t l v)
-        kept-factors kept-cofactors
+        kept-factors
 
     pub extended : List ℕ
     extended = over (sheetWords (with-terms w)) old

@@ -1,11 +1,3 @@
-pub mod ChainCallLaws
-pub mod ChainLinkingLaws
-pub mod ChainStepLaws
-pub mod ChainedLaws
-pub mod ExtendTotalLaws
 pub mod ExtendingLaws
-pub mod LiftChainLaws
-pub mod LiftLinkLaws
-pub mod LinkPartLaws
-pub mod ListedLaws
-pub mod SoundChainLaws
+pub mod ExtendTotalLaws
+pub mod StoredLaws

@@ -10,9 +10,8 @@ use mathlib.Core.List.{List, [], _∷_}
 use lib.Dec.{ltb}
 use lib.ListN.{length}
 use Rattle.numbers.specs.Words.{word, outside}
-use Rattle.numbers.specs.Refusals.{Check, check, judge, Outcome, result}
+use Rattle.numbers.specs.Refusals.{Check, check, judge, Outcome, result, Leaves}
 use Rattle.numbers.specs.declared.refusal.Verdict.{Verdict}
-use Rattle.pair.specs.Pair.{Leaves}
 use Rattle.sheet.specs.Layout.{degree, width, terms, count, factorsFrom, end}
 use Rattle.sheet.specs.Sheet.{Sound, soundTest}
 
@@ -26,7 +25,7 @@ extendChecks s w =
 unfoldable pub extendVerdict : List ℕ → ℕ → Verdict
 extendVerdict s w = judge (extendChecks s w)
 
--- word i stands in columns k..w − 1 of the factors' or the cofactors' rows
+-- word i stands in columns k..w − 1 of the factors' rows
 abbrev pub InColumns : List ℕ → ℕ → ℕ → Type 0
 InColumns s w i =
     let first = factorsFrom (degree s) (width s) (count s) in

@@ -1,6 +1,6 @@
 -- From the calls that listing makes to the text that the job comes to.
 --   list-refused, list-opens   the verdict of a job: its own checks', or else open's
---   list-room                  a sheet of 9,600 words is room enough for every job
+--   list-room                  a sheet of 1,634 words is room enough for every job
 --   opened-holds, extended-holds   an accepted open, and then extend to N, leave a sheet that holds what the job gives
 --   text-refused, text-listed  the text under a verdict
 --   wrote-refused, wrote-listed, given-listable   after open: its refusal, or else extend to N
@@ -9,7 +9,7 @@
 --   listing-same               two sheets that hold it have one listing
 --   one-listing                each job comes to exactly one text
 -- Assumes nothing.
-use Prim.Native.Nat.{ℕ, zero, suc, _+_, _-_, _*_, _≤_, _<_}
+use Prim.Native.Nat.{ℕ, zero, suc, _+_, _*_, _≤_, _<_}
 use native.Mathlib.Nat.{mul-le-mul, add-mul}
 use native.Mathlib.Omega.{arith}
 use mathlib.Core.Path.{_≡_, refl, sym, ap, ap₂, subst, _∙_}
@@ -19,23 +19,22 @@ use lib.Dec.{ltb, eqb}
 use lib.ListN.{length, take, drop, length-append}
 use lib.Seq.{getD-take, length-take-le, take-at}
 use borrow.Author.Tests.{le-ltb, lt-ltb, ltb-false, eqb-true, not-false}
-use Rattle.algebra.specs.Sums.{sumTo, sumTo-bound, sumTo-ext, sumTo-suc, sumTo-mono}
+use Rattle.algebra.specs.Sums.{sumTo, sumTo-ext, sumTo-suc, sumTo-mono}
 use Rattle.numbers.specs.Words.{word, tabulate, over, outside}
-use Rattle.numbers.specs.Refusals.{check, judge, refusal, Outcome, accepted, refused, result, written, modulusChecks}
+use Rattle.numbers.specs.Refusals.{check, judge, refusal, Outcome, accepted, refused, result, written, modulusChecks, Leaves}
 use Rattle.numbers.specs.declared.refusal.Refusal.{Refusal}
 use Rattle.numbers.specs.declared.refusal.Verdict.{Verdict}
 use Rattle.numbers.specs.declared.refusal.Verdict.the-variants.{Pass, Refuse}
 use Rattle.numbers.proofs.RefusalsLaws.{after-pass, after-refuse, pass-parts, take-check, skip-check, none-judged, pass-check, neither, inside, answer-refused}
 use Rattle.numbers.proofs.WordsLaws.{tabulate-ext, length-tabulate}
-use Rattle.pair.specs.Pair.{Leaves}
-use Rattle.sheet.specs.Layout.{modulus, degree, width, terms, count, root, power, factor, codegree, factorsFrom, end}
+use Rattle.sheet.specs.Layout.{modulus, degree, width, terms, count, root, power, factor, factorsFrom, end}
 use Rattle.sheet.specs.Sheet.{Given, Holds}
 use Rattle.sheet.proofs.RegionsLaws.{in-rows}
 use Rattle.sheet.proofs.SoundTestLaws.{sound-test}
 use Rattle.sheet.proofs.UniqueLaws.{holds-unique}
 use Rattle.lift.specs.Extend.{extendVerdict, ExtendDone, Extended}
 use Rattle.lift.proofs.ExtendingLaws.{extend-holds}
-use Rattle.open.specs.Open.{needed, openChecks, openVerdict, OpenDone, Opened, powersOf, orNil}
+use Rattle.open.specs.Open.{needed, openChecks, openVerdict, OpenDone, Opened}
 use Rattle.open.proofs.OpeningLaws.{open-ready, sheet-exists}
 use Rattle.listing.specs.Text.{joinTo, rowLine, rowLines, rootLine, headLine, factorText, listingText, refusedText, Listable, Puts}
 use Rattle.listing.proofs.TextLaws.{puts-as}
@@ -61,14 +60,10 @@ pub open-room : (g : Given) (room : ℕ) → needed g ≤ room → openVerdict g
 unfolding openVerdict
 open-room g room h = rw (le-ltb room (needed g) h, le-ltb (needed g) (needed g) (omega arith))
 
--- 9,600 words are room enough within the job file's limits
-pub list-room : (g : Given) → g .D ≤ 12 → g .N ≤ 64 → length (g .roots) ≤ 12 → needed g ≤ 9600
+-- 1,634 words are room enough within the job file's limits
+pub list-room : (g : Given) → g .D ≤ 12 → g .N ≤ 64 → length (g .roots) ≤ 12 → needed g ≤ 1634
 unfolding needed
 list-room g d n r =
-    let m : ℕ → ℕ = word (orNil (powersOf g)) in
-    let s = sumTo-bound (length (g .roots) - 2) 12 (codegree (g .D) m) (λ i l. omega arith) in
-    let c : sumTo (length (g .roots) - 2) (codegree (g .D) m) ≤ 120 = omega arith in
-    let p : sumTo (length (g .roots) - 2) (codegree (g .D) m) * g .N ≤ 120 * 64 = mul-le-mul c n in
     let a : 2 * g .D + 1 ≤ 25 = omega arith in
     let q : (2 * g .D + 1) * g .N ≤ 25 * 64 = mul-le-mul a n in
     omega arith
@@ -224,8 +219,8 @@ job-limits b e =
       long = eqb-true (length b) (12 + 2 * half b 3 + 2 * ((half b 1 + 1) * half b 2)) (not-false (eqb (length b) (12 + 2 * half b 3 + 2 * ((half b 1 + 1) * half b 2))) (q .1));
     }
 
--- open's verdict on a job's words, in a sheet of 9,600, is the job's
-pub list-verdict : (b : List ℕ) (room : ℕ) → judge (jobChecks b) ≡ Pass → room ≡ 9600 → listVerdict b ≡ openVerdict (jobGiven b) room
+-- open's verdict on a job's words, in a sheet of 1,634, is the job's
+pub list-verdict : (b : List ℕ) (room : ℕ) → judge (jobChecks b) ≡ Pass → room ≡ 1634 → listVerdict b ≡ openVerdict (jobGiven b) room
 unfolding jobGiven
 list-verdict b room e q =
     let l = job-limits b e in
@@ -242,28 +237,28 @@ extend-passes g s w h low high =
 unlike : {A : Type 0} (T n d : ℕ) → _≡_ {A = Outcome ℕ} (refused n d) (accepted T) → A
 unlike T n d e = absurd (let z : _≡_ {A = ℕ} 0 1 = cc in let y : ⊥ = omega arith in y)
 
-module _ (g : Given) (old mid : List ℕ) (a : Outcome ℕ) (room : length old ≡ 9600) (o : Opened g old a mid) where
-  answered : a ≡ result (openVerdict g 9600) (needed g)
+module _ (g : Given) (old mid : List ℕ) (a : Outcome ℕ) (room : length old ≡ 1634) (o : Opened g old a mid) where
+  answered : a ≡ result (openVerdict g 1634) (needed g)
   answered = subst (λ (n : ℕ). a ≡ result (openVerdict g n) (needed g)) room (o .answers)
 
-  refused-text : (n d : ℕ) → a ≡ refused n d → TextOf (openVerdict g 9600) g (refusedText n d)
-  refused-text n d is = go (openVerdict g 9600) refl (sym is ∙ answered)
+  refused-text : (n d : ℕ) → a ≡ refused n d → TextOf (openVerdict g 1634) g (refusedText n d)
+  refused-text n d is = go (openVerdict g 1634) refl (sym is ∙ answered)
     where
-      go : (v : Verdict) → openVerdict g 9600 ≡ v → _≡_ {A = Outcome ℕ} (refused n d) (result v (needed g)) → TextOf (openVerdict g 9600) g (refusedText n d)
+      go : (v : Verdict) → openVerdict g 1634 ≡ v → _≡_ {A = Outcome ℕ} (refused n d) (result v (needed g)) → TextOf (openVerdict g 1634) g (refusedText n d)
       go Pass q e = unlike (needed g) n d e
       go (Refuse r) q e =
           let m : r .number ≡ n = cc in
           let l : r .detail ≡ d = cc in
-          subst (λ (x : List ℕ). TextOf (openVerdict g 9600) g x) (ap₂ refusedText m l) (text-refused (openVerdict g 9600) g r q)
+          subst (λ (x : List ℕ). TextOf (openVerdict g 1634) g x) (ap₂ refusedText m l) (text-refused (openVerdict g 1634) g r q)
 
-  pub wrote-refused : (n d : ℕ) {at : ℕ} {out new : List ℕ} → a ≡ refused n d → Puts 30 (refusedText n d) 0 out at new → Wrote (openVerdict g 9600) g out at new
+  pub wrote-refused : (n d : ℕ) {at : ℕ} {out new : List ℕ} → a ≡ refused n d → Puts 30 (refusedText n d) 0 out at new → Wrote (openVerdict g 1634) g out at new
   wrote-refused n d is f =
       record { text = refusedText n d; is = refused-text n d is; puts = puts-as 9216 (refusedText n d) f refl (omega arith) }
 
-  passed : (T : ℕ) → a ≡ accepted T → openVerdict g 9600 ≡ Pass
-  passed T is = go (openVerdict g 9600) refl (sym is ∙ answered)
+  passed : (T : ℕ) → a ≡ accepted T → openVerdict g 1634 ≡ Pass
+  passed T is = go (openVerdict g 1634) refl (sym is ∙ answered)
     where
-      go : (v : Verdict) → openVerdict g 9600 ≡ v → _≡_ {A = Outcome ℕ} (accepted T) (result v (needed g)) → openVerdict g 9600 ≡ Pass
+      go : (v : Verdict) → openVerdict g 1634 ≡ v → _≡_ {A = Outcome ℕ} (accepted T) (result v (needed g)) → openVerdict g 1634 ≡ Pass
       go Pass q e = q
       go (Refuse r) q e = unlike T (r .number) (r .detail) (sym e)
 
@@ -271,7 +266,7 @@ module _ (g : Given) (old mid : List ℕ) (a : Outcome ℕ) (room : length old �
   holds-all T w b new is e x =
       let v = passed T is in
       let h = opened-holds g old mid a o (ap (openVerdict g) room ∙ v) in
-      let ready = open-ready g 9600 v .0 in
+      let ready = open-ready g 1634 v .0 in
       let y = extended-holds g mid new b w h x (extend-passes g mid w h (omega (arith, ready .width-low)) (omega arith)) in
       subst (λ (n : ℕ). Holds g n new) e y
 
@@ -281,9 +276,9 @@ module _ (g : Given) (old mid : List ℕ) (a : Outcome ℕ) (room : length old �
       listable new (h .sound) (omega (arith, h .same-degree)) (omega (arith, h .same-width))
 
   pub wrote-listed : (T w : ℕ) (b : Outcome ℕ) (new : List ℕ) {at : ℕ} {out text : List ℕ} → a ≡ accepted T → w ≡ g .N → Extended mid w b new
-      → Puts 9216 (listingText new) 0 out at text → Wrote (openVerdict g 9600) g out at text
+      → Puts 9216 (listingText new) 0 out at text → Wrote (openVerdict g 1634) g out at text
   wrote-listed T w b new is e x f =
-      record { text = listingText new; is = text-listed (openVerdict g 9600) g new (passed T is) (holds-all T w b new is e x); puts = f }
+      record { text = listingText new; is = text-listed (openVerdict g 1634) g new (passed T is) (holds-all T w b new is e x); puts = f }
 
 -- the words of a job, where they were loaded into the first m words of an array
 pub loaded-first : (b : List ℕ) (from o m k : ℕ) (zeros new : List ℕ) → m ≤ length zeros → from ≡ o → m ≡ k → new ≡ halves b from (length (take m zeros))
@@ -325,7 +320,7 @@ pub wrote-job : (b : List ℕ) (g : Given) {out new : List ℕ} {at : ℕ} → j
     → Wrote (listVerdict b) (jobGiven b) out at new
 wrote-job b g {out} {new} {at} e p d n rows roots w =
     let s = subst (λ (x : Given). WroteGiven x out at new) (given-same b g p d n rows roots) w in
-    subst (λ (v : Verdict). Wrote v (jobGiven b) out at new) (sym (list-verdict b 9600 e refl)) s
+    subst (λ (v : Verdict). Wrote v (jobGiven b) out at new) (sym (list-verdict b 1634 e refl)) s
 
 -- the text of a job that its own checks refuse
 pub wrote-early : (b : List ℕ) (r : Refusal) {out new : List ℕ} {at : ℕ} → judge (jobChecks b) ≡ Refuse r → Puts 30 (refusedText (r .number) (r .detail)) 0 out at new

@@ -33,9 +33,9 @@ pub record Wrote (v : Verdict) (g : Given) (old : List ℕ) (answer : ℕ) (new 
   pub is : TextOf v g text
   pub puts : Puts 9216 text 0 old answer new
 
--- by open's verdict in a sheet of 9,600 words
+-- by open's verdict in a sheet of 1,634 words
 abbrev pub WroteGiven : (g : Given) (old : List ℕ) (answer : ℕ) (new : List ℕ) → Type 0
-WroteGiven g old answer new = Wrote (openVerdict g 9600) g old answer new
+WroteGiven g old answer new = Wrote (openVerdict g 1634) g old answer new
 
 abbrev pub roomVerdict : (text old : List ℕ) → Verdict
 roomVerdict text old = judge (check 10 (ltb (length old) (length text)) (length text) ∷ [])

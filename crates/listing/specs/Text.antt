@@ -14,7 +14,7 @@ use mathlib.Core.List.{List, [], _∷_, _++_}
 use lib.ListN.{length, take, drop}
 use Rattle.algebra.specs.Sums.{sumTo}
 use Rattle.numbers.specs.Words.{tabulate}
-use Rattle.sheet.specs.Layout.{modulus, degree, width, terms, count, root, power, factor, cofactorsFrom}
+use Rattle.sheet.specs.Layout.{modulus, degree, width, terms, count, root, power, factor, end}
 use Rattle.listing.specs.Decimal.{digits}
 
 -- "mod "
@@ -104,7 +104,7 @@ pub record Listable (s : List ℕ) : Type 0 where
   pub width-high : width s ≤ 64
   pub count-high : count s ≤ 12
   pub powers-sum : sumTo (count s) (power s) ≡ degree s
-  pub long : cofactorsFrom (degree s) (width s) (count s) ≤ length s
+  pub long : end s ≤ length s
 
 -- A text of at most `room` bytes was put into the buffer `old` from place `at` on, and nothing else was changed; the answer is the place after it.
 pub record Puts (room : ℕ) (text : List ℕ) (at : ℕ) (old : List ℕ) (answer : ℕ) (new : List ℕ) : Type 0 where

@@ -14,12 +14,12 @@ ghost use Rattle.listing.specs.Listing.{Wrote, WroteGiven, roomVerdict, 
 mod job; // reading a job file
 mod text; // the listing's bytes
 
-// The text of what open is given. A sheet of 9,600 words is room enough within a job's limits.
+// The text of what open is given. A sheet of 1,634 words is room enough within a job's limits.
 fn write_given(p: u32, d: u32, n: u32, rows: &[u32], roots: &[u32], out: &mut [u8]) -> usize
     requires { ⌜ (d ≤ 12) × (n ≤ 64) × (9216 ≤ length (now out)) ⌝ }
     ensures { λ r. ⌜ WroteGiven (record { p = p; D = d; N = n; rows = now (rows .entry); roots = now (roots .entry) }) (now (out .entry)) r (now (out .exit)) ⌝ }
 {
-    let mut sheet = [0u32; 9600];
+    let mut sheet = [0u32; 1634];
     if let Answer::Refused(r) = open::open(p, d, n, rows, roots, &mut sheet) {
         return text::put_refusal(r.number, r.detail, out);
     }

@@ -1,9 +1,9 @@
 -- Laws of the least divisor (trial division, primes) and of the inverse modulo a prime.
 -- Assumes nothing.
-use mathlib.Core.Path.{_≡_, refl, sym, ap, subst, _∙_}
+use mathlib.Core.Path.{_≡_, sym, ap, subst, _∙_}
 use mathlib.Core.Logic.{⊎-elim}
-use Prim.Native.Nat.{ℕ, zero, suc, _+_, _-_, _*_, _/_, _%_, _≤_, _<_, _∣_}
-use native.Mathlib.Nat.{eq-or-lt-of-le, mul-le-mul, mul-le-mul-right, div-add-mod, div-add-mod', mul-mod-right, mul-comm, mul-one, mul-add, mul-right-comm, le-refl, zero-mul, one-mul, suc-mul, mod-lt, mod-self, mod-eq-of-lt, mod-eq-zero-of-dvd, dvd-of-mod-eq-zero, div-le-self, sub-add-cancel, mul-add-mod-self-left}
+use Prim.Native.Nat.{ℕ, zero, suc, _+_, _-_, _*_, _/_, _%_, _≤_, _<_}
+use native.Mathlib.Nat.{eq-or-lt-of-le, mul-le-mul, mul-le-mul-right, div-add-mod, div-add-mod', mul-mod-right, mul-comm, mul-add, mul-right-comm, le-refl, zero-mul, one-mul, suc-mul, mod-lt, mod-self, mod-eq-of-lt, mod-eq-zero-of-dvd, dvd-of-mod-eq-zero, div-le-self, sub-add-cancel, mul-add-mod-self-left}
 use native.Mathlib.Omega.{arith}
 use borrow.Author.Tests.{eq-eqb, eqb-true}
 use lib.Dec.{eqb}

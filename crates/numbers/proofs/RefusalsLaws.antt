@@ -1,6 +1,6 @@
 -- Laws of judging: what follows a pass, and what a pass says of the input.
 -- Assumes nothing.
-use mathlib.Core.Path.{_≡_, refl, sym, ap, _∙_}
+use mathlib.Core.Path.{_≡_, refl, sym, ap, _∙_, subst}
 use mathlib.Core.Bool.{Bool, true, false, not, _||_}
 use mathlib.Core.List.{List, [], _∷_, _++_}
 use Prim.Native.Nat.{ℕ, _*_, _≤_, _<_}
@@ -11,7 +11,7 @@ use lib.ListN.{length}
 use Rattle.algebra.specs.Fp.{Prime}
 use Rattle.numbers.specs.Words.{choose, firstLarge, over, outside, AllBelow}
 use Rattle.numbers.specs.Divisor.{leastDivisor}
-use Rattle.numbers.specs.Refusals.{Check, check, judge, refusal, Outcome, accepted, refused, result, written, modulusChecks, unreduced, inputChecks, operationChecks, largestModulus}
+use Rattle.numbers.specs.Refusals.{Check, check, judge, refusal, Outcome, accepted, refused, result, written, modulusChecks, unreduced, inputChecks, operationChecks, largestModulus, Leaves}
 use Rattle.numbers.specs.declared.refusal.Refusal.{Refusal}
 use Rattle.numbers.specs.declared.refusal.Verdict.{Verdict}
 use Rattle.numbers.specs.declared.refusal.Verdict.the-variants.{Pass, Refuse}
@@ -175,3 +175,11 @@ answer-refused r n new old e = rw e (refl, refl)
 pub answer-done : {v : Verdict} (F : ℕ → List ℕ) (m k n : ℕ) (old out : List ℕ) → v ≡ Pass → out ≡ over (F m) old → m ≡ k
     → (_≡_ {A = Outcome ℕ} (accepted n) (result v n)) × (out ≡ written v (over (F k) old) old)
 answer-done F m k n old out e w q = rw e (refl, w ∙ ap (λ (x : ℕ). over (F x) old) q)
+
+-- an answer and what it leaves, after a verdict
+pub leave-refused : {v : Verdict} (r : Refusal) (x : ℕ) (Done : Type 0) (s : List ℕ) → v ≡ Refuse r
+    → (_≡_ {A = Outcome ℕ} (refused (r .number) (r .detail)) (result v x)) × Leaves v Done s s
+leave-refused r x Done s e = (subst (λ v. _≡_ {A = Outcome ℕ} (refused (r .number) (r .detail)) (result v x)) (sym e) refl, subst (λ v. Leaves v Done s s) (sym e) refl)
+
+pub leave-done : {v : Verdict} (o x : ℕ) (Done : Type 0) (old new : List ℕ) → v ≡ Pass → o ≡ x → Done → (_≡_ {A = Outcome ℕ} (accepted o) (result v x)) × Leaves v Done old new
+leave-done o x Done old new e q h = (subst (λ v. _≡_ {A = Outcome ℕ} (accepted o) (result v x)) (sym e) (ap accepted q), subst (λ v. Leaves v Done old new) (sym e) h)

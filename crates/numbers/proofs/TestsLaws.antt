@@ -10,7 +10,7 @@ use mathlib.Core.List.{List, [], _∷_}
 use lib.Dec.{eqb, ltb}
 use lib.ListN.{getD}
 use borrow.Author.Tests.{eq-eqb, eqb-true, lt-ltb, ltb-true}
-use Rattle.numbers.specs.Words.{choose, allTo, all}
+use Rattle.numbers.specs.Words.{choose, allTo, all, Decides}
 use Rattle.numbers.proofs.WordsLaws.{true-false}
 
 -- where a test is true, and where it is false
@@ -77,3 +77,14 @@ past n k m f = (
   λ e j l t h g. subst (λ x. f j x ≡ 0) (add-sub-of-le h) (square n (m - k) (λ j t. f j (k + t)) (λ j t. 0) .0 e j l (t - k) (omega arith)),
   λ h. square n (m - k) (λ j t. f j (k + t)) (λ j t. 0) .1 (λ j l t g. h j l (k + t) (omega arith) (omega arith)),
 )
+
+pub allTo-ext : (n : ℕ) (f g : ℕ → Bool) → ((i : ℕ) → i < n → f i ≡ g i) → allTo n f ≡ allTo n g
+unfolding allTo
+allTo-ext zero f g h = refl
+allTo-ext (suc n) f g h = rw (h n (omega arith), allTo-ext n f g (λ i l. h i (omega arith)))
+
+pub decides-yes : {A : Type 0} → A → Decides true A
+decides-yes a = record { yes = λ _. a; no = λ e. true-false e }
+
+pub decides-no : {A : Type 0} → (A → ⊥) → Decides false A
+decides-no n = record { yes = λ e. true-false (sym e); no = λ _. n }

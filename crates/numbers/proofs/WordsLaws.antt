@@ -9,9 +9,9 @@ use native.Mathlib.Nat.{le-of-suc-le-suc, eq-or-lt-of-le, le-refl}
 use native.Mathlib.Decide.{decLt}
 use native.Mathlib.Numerals.{add-one}
 use native.Mathlib.Omega.{arith}
-use borrow.Author.Tests.{le-leb, lt-leb, leb-false}
+use borrow.Author.Tests.{le-leb, lt-leb, leb-false, leb-true}
 use lib.Dec.{leb}
-use lib.ListN.{length, getD, take, drop, set, List·getD-append, length-set, length-append, length-drop}
+use lib.ListN.{length, take, drop, set, List·getD-append, length-set, length-append, length-drop}
 use lib.Seq.{set-at, drop-cons, take-at, drop-at, drop-drop, drop-length, take-all, getD-at, getD-drop, getD-append-add}
 use Rattle.numbers.specs.Words.{word, choose, firstWhere, firstLarge, AllBelow, tabulate, over}
 
@@ -217,3 +217,13 @@ word-from s a k = ap (λ (l : List ℕ). word l k) (from-is s a) ∙ getD-drop a
 
 pub from-below : (p : ℕ) (s : List ℕ) (a : ℕ) → AllBelow p s → AllBelow p (from s a)
 from-below p s a b k h = rw (word-from s a k) (b (a + k) (omega (arith, length-from s a)))
+
+-- the first large word is large
+head-large : (p x n t : ℕ) (s : List ℕ) (b : Bool) → leb p x ≡ b → (t < n → p ≤ word s t) → choose b 0 (suc t) < suc n → p ≤ word (x ∷ s) (choose b 0 (suc t))
+head-large p x n t s true e h l = leb-true p x e
+head-large p x n t s false e h l = h (le-of-suc-le-suc l)
+
+pub large-there : (p : ℕ) (s : List ℕ) → firstLarge p s < length s → p ≤ word s (firstLarge p s)
+unfolding firstLarge
+large-there p [] h = absurd (let z : ⊥ = omega arith in z)
+large-there p (x ∷ xs) h = head-large p x (length xs) (firstLarge p xs) xs (leb p x) refl (large-there p xs) h

@@ -5,6 +5,7 @@
 --   result v x          the outcome that follows a verdict: a pass is accepted with x
 --   outcome r           document 01's number and values for each case of an answer
 --   written v new old   the words after the call: a refusal leaves the old ones
+--   Leaves v Met old new   the same where what is written is given by conditions
 --   modulusChecks p     rows 1 and 2
 --   unreduced p s       row 6 for the words s; its detail is firstLarge p s
 --   shapeChecks ..      rows 3 to 6 for an operation that takes fRows rows f and gRows rows g of N words each and gives `rows` rows:
@@ -13,9 +14,10 @@
 --   operationChecks ..  and row 10, for an output of `room` words
 -- Assumes nothing.
 use Prim.Native.Nat.{ℕ, _*_}
-use mathlib.Core.Bool.{Bool, true, false, not, _||_}
+use mathlib.Core.Path.{_≡_}
+use mathlib.Core.Bool.{Bool, not, _||_}
 use mathlib.Core.List.{List, [], _∷_, _++_}
-use lib.Dec.{leb, ltb, eqb}
+use lib.Dec.{ltb, eqb}
 use lib.ListN.{length}
 use Rattle.numbers.specs.Words.{choose, firstLarge, outside}
 use Rattle.numbers.specs.Divisor.{leastDivisor}
@@ -58,6 +60,11 @@ outcome (Refused r) = refused (r .number) (r .detail)
 abbrev pub written : Verdict → List ℕ → List ℕ → List ℕ
 written Pass new old = new
 written (Refuse r) new old = old
+
+-- a refusal leaves every word
+abbrev pub Leaves : Verdict → Type 0 → List ℕ → List ℕ → Type 0
+Leaves Pass Met old new = Met
+Leaves (Refuse r) Met old new = new ≡ old
 
 abbrev pub modulusChecks : ℕ → List Check
 modulusChecks p =

@@ -11,8 +11,10 @@
 --   tabulate n f         the words f 0, f 1, .., f (n − 1)
 --   over xs s            s with the words xs in place of its first ones
 --   part s a n           the n words of s from word a on
+--   Decides b A          b is true where A holds, and false where it doesn't
 -- Assumes nothing.
 use Prim.Native.Nat.{ℕ, zero, suc, _<_, _%_}
+use mathlib.Core.Path.{_≡_}
 use mathlib.Core.Bool.{Bool, true, false, _||_}
 use mathlib.Core.List.{List, [], _∷_, _++_}
 use lib.Dec.{leb, ltb}
@@ -59,3 +61,8 @@ over xs s = xs ++ drop (length xs) s
 
 abbrev pub part : List ℕ → ℕ → ℕ → List ℕ
 part s a n = take n (drop a s)
+
+-- an answer to a question
+pub record Decides (b : Bool) (A : Type 0) : Type 0 where
+  pub yes : b ≡ true → A
+  pub no : b ≡ false → A → ⊥

@@ -4,7 +4,7 @@ use crate::refusal::Verdict;
 use crate::refusal::refuse;
 ghost use mathlib.Core.Path.{_≡_};
 ghost use mathlib.Core.List.{_++_};
-ghost use Prim.Native.Nat.{ℕ, _+_, _*_, _≤_, _<_, _%_};
+ghost use Prim.Native.Nat.{_+_, _*_, _<_};
 ghost use lib.ListN.{length};
 ghost use Rattle.numbers.specs.Words.{firstLarge};
 ghost use Rattle.numbers.specs.Refusals.{judge, modulusChecks, inputChecks, operationChecks};

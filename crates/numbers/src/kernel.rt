@@ -1,7 +1,7 @@
 // The least divisor above 1, and inverses modulo a prime. These trust their caller: they have a `requires`, and are for the crates
 // of this repository.
 ghost use mathlib.Core.Path.{_≡_};
-ghost use Prim.Native.Nat.{ℕ, _+_, _*_, _≤_, _<_, _%_};
+ghost use Prim.Native.Nat.{_*_, _≤_, _<_, _%_};
 ghost use Rattle.algebra.specs.Fp.{Prime};
 ghost use Rattle.numbers.specs.Divisor.{leastDivisor, inverseOf};
 

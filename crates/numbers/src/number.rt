@@ -6,7 +6,7 @@ use crate::refusal::Refusal;
 use crate::refusal::Verdict;
 use crate::refusal::refuse;
 ghost use mathlib.Core.Path.{_≡_};
-ghost use Prim.Native.Nat.{ℕ, _≤_};
+ghost use Prim.Native.Nat.{_≤_};
 ghost use lib.ListN.{length};
 ghost use Rattle.numbers.specs.Refusals.{judge};
 ghost use Rattle.numbers.specs.Number.{numberOutcome, operandChecks, sumOf, differenceOf, productOf, inverseNumber};

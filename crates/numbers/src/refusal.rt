@@ -1,6 +1,5 @@
 // Why a call is refused, and the answers that say so.
 ghost use mathlib.Core.Path.{_≡_};
-ghost use Prim.Native.Nat.{ℕ};
 ghost use Rattle.numbers.specs.Refusals.{refusal};
 
 // A row of document 01's table of refusals, by its number, and its detail word.

@@ -4,17 +4,17 @@
 --   finding-stops    a root that does not divide: there are no such powers
 --   finding-ends     after the last root there are powers exactly where nothing is left but 1
 -- Assumes nothing.
-use Prim.Native.Nat.{ℕ, zero, suc, _+_, _-_, _*_, _≤_, _<_, Fin}
+use Prim.Native.Nat.{ℕ, zero, suc, _+_, _-_, _≤_, _<_, Fin}
 use native.Mathlib.Bridge.{le-prop}
 use native.Mathlib.Numerals.{add-one}
 use native.Mathlib.Omega.{arith}
 use mathlib.Core.Path.{_≡_, refl, sym, _∙_, ap, ap₂, subst, fun-ext}
 use mathlib.Core.Logic.{_≢_, ⊎-elim}
-use mathlib.Core.Bool.{Bool, true, false}
+use mathlib.Core.Bool.{Bool, false}
 use mathlib.Core.List.{List}
 use borrow.Author.Tests.{eqb-true, eq-eqb}
 use lib.Dec.{eqb}
-use lib.ListN.{length, take, drop, set, length-drop, List·getD-eq-default}
+use lib.ListN.{length, drop, set, length-drop, List·getD-eq-default}
 use lib.Seq.{getD-drop, getD-set-same, getD-set-other}
 use Rattle.algebra.specs.Sums.{sumTo, sumTo-zero, sumTo-suc, sumTo-ext}
 use Rattle.algebra.specs.Ring.{CommRing, prod, prod-zero, prodFrom, prodFrom-zero, prodFrom-suc}
@@ -26,11 +26,11 @@ use Rattle.algebra.specs.Fp.{Prime, Fp, p-pos, Fp-field, rem}
 use Rattle.algebra.specs.Bridge.{same-rem, rem-zero, rem-one}
 use Rattle.numbers.specs.Words.{word, AllBelow}
 use Rattle.numbers.proofs.WordsLaws.{true-false, lt-or-ge}
-use Rattle.pair.specs.Column.{hornerWord, hornerWords}
-use Rattle.pair.proofs.ColumnLaws.{horner-words-at, horner-below, length-horner, drop-below}
-use Rattle.pair.proofs.SolveLaws.{below-pol, horner-poly}
-use Rattle.open.specs.Powers.{overField, Divided, DividedOut, GivesPowers, FoundPowers}
-use Rattle.sheet.proofs.FactorsLaws.{rootsOf, key, roots-rising}
+use Rattle.columns.specs.Column.{hornerWords}
+use Rattle.columns.proofs.ColumnLaws.{horner-words-at, horner-below, length-horner, drop-below}
+use Rattle.columns.proofs.SolveLaws.{below-pol, horner-poly}
+use Rattle.open.specs.Powers.{overField, DividedOut, GivesPowers, FoundPowers}
+use Rattle.split.proofs.FactorsLaws.{rootsOf, key, roots-rising}
 use Rattle.open.proofs.PowersLaws.{horner-last}
 
 module _ {p : ℕ} (prime : Prime p) (roots : List ℕ) (reduced : AllBelow p roots) (up : (i : ℕ) → suc i < length roots → word roots i < word roots (suc i)) where

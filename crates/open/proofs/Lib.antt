@@ -6,9 +6,8 @@ pub mod OpenTotalLaws
 pub mod OpeningLaws
 pub mod PowersFoundLaws
 pub mod PowersLaws
-pub mod SizeLaws
 pub mod OpenCheckedLaws
+pub mod LineLaws
 pub mod WritingLaws
-pub mod CofactorsWritingLaws
 pub mod SheetWritingLaws
 pub mod OpenDoneLaws

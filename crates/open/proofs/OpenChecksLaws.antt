@@ -1,37 +1,32 @@
 -- The checks of open: their parts, and what each part that passes says.
---   open-rows              the checks of open are the three parts, one after the other
+--   open-rows-split        the checks of open are the three parts, one after the other
 --   unit-fails, unit-passes, rising-fails, rising-passes   what the two loops find
 --   Shape, shape-pass      what rows 1 to 6 let pass
 --   row-test               row D of the polynomial is the part of the rows that the loop looks at
+--   Listed, listed-pass    what rows 1 to 8 let pass
 -- Assumes nothing.
 use Prim.Native.Nat.{ℕ, zero, suc, _+_, _-_, _*_, _≤_, _<_}
 use native.Mathlib.Nat.{eq-or-lt-of-le}
 use native.Mathlib.Omega.{arith}
 use mathlib.Core.Path.{_≡_, refl, sym, _∙_, ap, subst}
 use mathlib.Core.Logic.{_≢_, ⊎-elim}
-use mathlib.Core.Bool.{Bool, true, false, not, _||_}
-use mathlib.Core.List.{List, [], _∷_, _++_}
+use mathlib.Core.Bool.{true, false, not, _||_}
+use mathlib.Core.List.{List, [], _++_}
 use borrow.Author.Tests.{lt-ltb, le-ltb, ne-eqb, not-false, eqb-true, ltb-true}
 use lib.Dec.{ltb, eqb}
 use lib.ListN.{length, take, drop}
 use lib.Seq.{getD-take, getD-drop}
 use Rattle.numbers.specs.Words.{word, allTo, firstLarge, outside, lowWord, AllBelow}
-use Rattle.numbers.specs.Refusals.{check, judge, modulusChecks, unreduced}
+use Rattle.numbers.specs.Refusals.{check, judge, modulusChecks, unreduced, largestModulus}
 use Rattle.numbers.specs.declared.refusal.Verdict.the-variants.{Pass}
 use Rattle.numbers.proofs.WordsLaws.{below-append}
-use Rattle.numbers.proofs.TestsLaws.{eqs, allTo-at, allTo-false, at-allTo}
-use Rattle.numbers.proofs.RefusalsLaws.{Modulus, modulus-pass, pass-parts, pass-check, neither, reduced}
+use Rattle.numbers.proofs.TestsLaws.{eqs, allTo-at, allTo-false, at-allTo, allTo-ext}
+use Rattle.numbers.proofs.RefusalsLaws.{Modulus, modulus-pass, pass-parts, pass-check, neither, reduced, inside}
 use Rattle.rows.proofs.RowsLaws.{length-part, row-fits}
-use Rattle.pair.specs.Pair.{unit}
-use Rattle.pair.proofs.PartLaws.{allTo-ext}
+use Rattle.rows.specs.Rows.{unit}
 use Rattle.sheet.specs.Sheet.{Given, given-polynomial}
 use Rattle.open.specs.Open.{openVerdict}
 use Rattle.open.specs.Opening.{isUnit, rising, shapeOnly, shapeRows, listRows, splitRows}
-use Rattle.numbers.proofs.RefusalsLaws.{inside}
-
-pub open-rows : (g : Given) (room : ℕ) → openVerdict g room ≡ judge (shapeRows g ++ (listRows g ++ splitRows g room))
-unfolding openVerdict
-open-rows g room = refl
 
 pub open-rows-split : (g : Given) (room : ℕ) → openVerdict g room ≡ judge ((shapeRows g ++ listRows g) ++ splitRows g room)
 unfolding openVerdict
@@ -58,6 +53,7 @@ rising-passes s i l h = sym (at-allTo (length s - 1) (λ i. ltb (word s i) (word
 -- what rows 1 to 6 let pass
 pub record Shape (g : Given) : Type 0 where
   pub modulus : Modulus (g .p)
+  pub small : g .p ≤ largestModulus
   pub degree-low : 1 ≤ g .D
   pub degree-high : g .D ≤ 32
   pub width-low : 1 ≤ g .N
@@ -78,6 +74,7 @@ shape-pass g pass =
     let low = below-append (g .p) (g .rows) (g .roots) (reduced (g .p) (g .rows ++ g .roots) (c₆ .0)) in
     record {
       modulus = modulus-pass (g .p) (m .0);
+      small = inside 2 largestModulus (g .p) (pass-check (check 1 (outside 2 largestModulus (g .p)) 0) _ (m .0) .0) .1;
       degree-low = d .0;
       degree-high = d .1;
       width-low = n .0;
@@ -111,7 +108,7 @@ one-first s e (suc k) l = absurd (let z : ⊥ = omega arith in z)
 pub rising-more : (s : List ℕ) (i : ℕ) → 1 ≤ i → ((k : ℕ) → suc k < i → word s k < word s (suc k)) → word s (i - 1) < word s i → (k : ℕ) → suc k < i + 1 → word s k < word s (suc k)
 rising-more s i low h last k l = ⊎-elim (λ (e : suc k ≡ i). subst (λ n. word s n < word s (suc k)) (let z : suc k - 1 ≡ k = omega arith in z) (subst (λ n. word s (n - 1) < word s n) (sym e) last)) (λ g. h k g) (eq-or-lt-of-le (let z : suc k ≤ i = omega arith in z))
 
--- what rows 7 and 8 let pass
+-- what rows 1 to 8 let pass
 pub record Listed (g : Given) : Type 0 where
   pub shape : Shape g
   pub top : (t : ℕ) → t < g .N → given-polynomial g (g .D) t ≡ unit t
@@ -133,3 +130,6 @@ listed-pass g pass =
       count-high = r .1;
       up = λ i u. ltb-true _ _ (allTo-at (length (g .roots) - 1) (λ i. ltb (word (g .roots) i) (word (g .roots) (suc i))) (not-false (rising (g .roots)) (n .1)) i (omega arith));
     }
+
+pub listed-small : (g : Given) → Listed g → (g .D ≤ 32) × (g .N ≤ 256) × (length (g .roots) ≤ 32)
+listed-small g h = let d = h .shape .degree-high in let r = h .count-high in (d, h .shape .width-high, omega arith)

@@ -10,18 +10,17 @@ use mathlib.Core.Option.{some}
 use mathlib.Core.List.{List, _++_}
 use lib.ListN.{length, take}
 use Rattle.numbers.specs.Words.{over}
-use Rattle.numbers.specs.Refusals.{judge, Outcome, accepted, refused, result}
+use Rattle.numbers.specs.Refusals.{judge, Outcome, accepted, refused, result, Leaves}
 use Rattle.numbers.specs.declared.refusal.Verdict.{Verdict}
 use Rattle.numbers.specs.declared.refusal.Verdict.the-variants.{Pass, Refuse}
 use Rattle.numbers.proofs.RefusalsLaws.{pass-parts}
-use Rattle.pair.specs.Pair.{Leaves}
 use Rattle.sheet.specs.Sheet.{Given}
 use Rattle.sheet.proofs.ContentLaws.{size}
 use Rattle.open.specs.Open.{powersOf, needed, openVerdict, OpenDone, Opened}
 use Rattle.open.specs.Opening.{shapeRows, listRows, splitRows, CheckedOpen}
 use Rattle.open.specs.Writing.{freshContent, freshWords, FreshReady}
 use Rattle.open.proofs.OpenChecksLaws.{Listed, listed-pass, open-rows-split}
-use Rattle.open.proofs.OpenSplitLaws.{split-sum}
+use Rattle.open.proofs.OpenLaws.{found-count}
 use Rattle.open.proofs.OpeningLaws.{open-ready, openWords, open-done}
 use Rattle.open.proofs.SheetWritingLaws.{open-fresh, ready-fresh, needed-fresh}
 
@@ -65,8 +64,8 @@ module _ (g : Given) (old : List ℕ) (T : ℕ) (found : List ℕ) (a : Outcome 
       let r = o .1 in (
         ready-fresh g first found-is (o .0),
         open-listed .shape .long,
-        split-sum g (length old) before first found-is .0,
-        t ∙ needed-fresh g first found-is,
+        found-count g first found-is,
+        t ∙ needed-fresh g first,
         omega arith,
       )
 

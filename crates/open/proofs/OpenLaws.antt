@@ -2,32 +2,30 @@
 --   choices-are, choices-all   `choices r D` lists the lists of r numbers, each 1 or more, whose sum is D, and all of them
 --   powers-are      powersOf finds l exactly when l are powers of the listed roots that give f at X = 0
 --   powers-none     it finds none exactly when there are none
---   sheet-splits    a sheet's powers are such powers
+--   found-count     it finds as many as there are roots
 --   needed-is       T, as open answers it, is where every sheet that holds what open was given ends
 -- Assumes nothing.
 use Prim.Native.Nat.{ℕ, zero, suc, _+_, _-_, _≤_, _<_}
 use native.Mathlib.Nat.{not-suc-le-zero, eq-or-lt-of-le, le-of-suc-le-suc}
 use native.Mathlib.Omega.{arith}
-use mathlib.Core.Path.{_≡_, refl, sym, _∙_, ap, ap₂, subst}
+use mathlib.Core.Path.{_≡_, refl, sym, _∙_, ap, subst}
 use mathlib.Core.Logic.{_↔_, ⊎-elim}
 use mathlib.Core.Bool.{Bool, true, false}
 use mathlib.Core.Option.{Option, none, some}
 use mathlib.Core.List.{List, [], _∷_, _++_, map}
 use lib.ListN.{length}
 use lib.Seq.{ext-getD}
-use Rattle.algebra.specs.Sums.{sumTo, sumTo-zero, sumTo-front, sumTo-ext}
+use Rattle.algebra.specs.Sums.{sumTo, sumTo-zero, sumTo-front}
 use Rattle.algebra.specs.Fp.{Prime}
-use Rattle.numbers.specs.Words.{word, tabulate}
-use Rattle.numbers.proofs.WordsLaws.{true-false, length-tabulate, word-tabulate}
+use Rattle.numbers.specs.Words.{word}
+use Rattle.numbers.proofs.WordsLaws.{true-false}
 use Rattle.numbers.proofs.TestsLaws.{eqs}
-use Rattle.sheet.specs.Factors.{split}
-use Rattle.sheet.specs.Layout.{modulus, degree, width, count, total, root, power, end}
+use Rattle.split.specs.Factors.{split}
+use Rattle.sheet.specs.Layout.{end}
 use Rattle.sheet.specs.Sheet.{Given, given-polynomial, Holds}
-use Rattle.open.specs.Open.{upwards, choices, find, splitsTest, powersOf, orNil, needed}
+use Rattle.open.specs.Open.{upwards, choices, find, splitsTest, powersOf, needed}
 use Rattle.sheet.proofs.SoundTestLaws.{upto, upto-back}
-use Rattle.sheet.proofs.FactorsLaws.{split-ext}
 use Rattle.sheet.proofs.ExistsLaws.{Splits, splits-unique}
-use Rattle.sheet.proofs.ContentLaws.{total-ext}
 
 -- of every list in a list
 abbrev Every : (List ℕ → Type 0) → List (List ℕ) → Type 0
@@ -133,6 +131,9 @@ module _ (g : Given) where
   unfolding powersOf
   found l = find-some (Powers (length (g .roots)) (g .D)) (splitsTest g) (choices (length (g .roots)) (g .D)) l (choices-are (length (g .roots)) (g .D))
 
+  pub found-count : (l : List ℕ) → powersOf g ≡ some l → length l ≡ length (g .roots)
+  found-count l e = found l e .0 .count
+
   none-found : powersOf g ≡ none → (l : List ℕ) → length l ≡ length (g .roots) → GivenSplits g (word l) → ⊥
   unfolding powersOf
   none-found e l n h =
@@ -144,13 +145,13 @@ module _ (g : Given) where
 
   module _ (prime : Prime (g .p)) (up : Rising g) (low : Reduced g) where
     pub powers-are : (l : List ℕ) → (powersOf g ≡ some l) ↔ ((length l ≡ length (g .roots)) × GivenSplits g (word l))
-    powers-are l = (λ e. (found l e .0 .count, found-splits l up low e), λ h. go h (powersOf g) refl)
+    powers-are l = (λ e. (found-count l e, found-splits l up low e), λ h. go h (powersOf g) refl)
       where
         go : (length l ≡ length (g .roots)) × GivenSplits g (word l) → (o : Option (List ℕ)) → powersOf g ≡ o → powersOf g ≡ some l
         go h none q = absurd (none-found q l (h .0) (h .1))
         go h (some m) q =
             let u = splits-unique prime (g .D) _ _ (given-polynomial g) (word (g .roots)) (word (g .roots)) (word m) (word l) (found-splits m up low q) (h .1) in
-            let n = found m q .0 .count in
+            let n = found-count m q in
             q ∙ ap (λ (x : List ℕ). some x) (ext-getD 0 m l (n ∙ sym (h .0)) (λ i v. u .1 i (omega arith) .1))
 
     pub powers-none : (powersOf g ≡ none) ↔ ((l : List ℕ) → length l ≡ length (g .roots) → GivenSplits g (word l) → ⊥)
@@ -158,48 +159,8 @@ module _ (g : Given) where
       where
         go : ((l : List ℕ) → length l ≡ length (g .roots) → GivenSplits g (word l) → ⊥) → (o : Option (List ℕ)) → powersOf g ≡ o → powersOf g ≡ none
         go h none q = q
-        go h (some m) q = absurd (h m (found m q .0 .count) (found-splits m up low q))
+        go h (some m) q = absurd (h m (found-count m q) (found-splits m up low q))
 
-module _ (g : Given) (k : ℕ) (s : List ℕ) (h : Holds g k s) where
-  abbrev r : ℕ
-  r = length (g .roots)
-
-  pub sheet-splits : GivenSplits g (power s)
-  sheet-splits =
-      let er = h .same-count in
-      let eD = h .same-degree in
-      let F = h .sound .factors in
-      record {
-        rising = λ i l. let a = h .same-roots i (omega arith) in let b = h .same-roots (suc i) (omega arith) in let c = F .rising i (omega arith) in omega arith;
-        reduced = λ i l. let a = h .same-roots i (omega arith) in let c = F .reduced i (omega arith) in let m = h .same-modulus in omega arith;
-        powers = λ i l. F .powers i (omega arith);
-        degree = ap (λ x. sumTo x (power s)) (sym er) ∙ F .degree ∙ eD;
-        splits = λ j l.
-            ap₂ (λ p r. split p r (word (g .roots)) (power s) j) (sym (h .same-modulus)) (sym er)
-            ∙ split-ext (modulus s) (count s) (word (g .roots)) (root s) (power s) (power s) (λ i v. sym (h .same-roots i v)) (λ i v. refl) j
-            ∙ F .splits j (omega arith) ∙ h .same-polynomial j (omega arith) zero (let a = h .sound .terms-low in let b = h .sound .terms-high in omega arith);
-      }
-
-  -- the powers found are the sheet's
-  found-power : (i : ℕ) → i < r → word (orNil (powersOf g)) i ≡ power s i
-  found-power i l =
-      let ps = tabulate r (power s) in
-      let w = word-tabulate r (power s) in
-      let S = sheet-splits in
-      let e : powersOf g ≡ some ps = powers-are g (subst Prime (h .same-modulus) (h .sound .prime)) (S .rising) (S .reduced) ps .1 (
-        length-tabulate r (power s),
-        record {
-          rising = S .rising;
-          reduced = S .reduced;
-          powers = λ i l. let a = w i l in let b = S .powers i l in omega arith;
-          degree = sumTo-ext r w ∙ S .degree;
-          splits = λ j l. split-ext (g .p) r (word (g .roots)) (word (g .roots)) (word ps) (power s) (λ i v. refl) w j ∙ S .splits j l;
-        },
-      ) in
-      ap (λ o. word (orNil o) i) e ∙ w i l
-
-  pub needed-is : needed g ≡ end s
-  unfolding needed
-  needed-is =
-      total-ext (g .D) (g .N) r (word (orNil (powersOf g))) (power s) found-power
-      ∙ ap₂ (λ D N. total D N r (power s)) (sym (h .same-degree)) (sym (h .same-width)) ∙ ap (λ r. total (degree s) (width s) r (power s)) (sym (h .same-count))
+pub needed-is : (g : Given) (k : ℕ) (s : List ℕ) → Holds g k s → needed g ≡ end s
+unfolding needed
+needed-is g k s h = cc (h .same-degree, h .same-width, h .same-count)

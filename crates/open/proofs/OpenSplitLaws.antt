@@ -1,6 +1,5 @@
 -- Rows 9 and 10 of open, after rows 1 to 8 have passed.
 --   split-none, split-short, split-pass   the verdict, by what `powers_of` finds and by T
---   split-size, split-sum                 T and the sum of the powers, from the powers found
 -- Assumes nothing.
 use Prim.Native.Nat.{ℕ, _≤_, _<_}
 use mathlib.Core.Path.{_≡_, _∙_, ap}
@@ -8,18 +7,13 @@ use mathlib.Core.Option.{none, some}
 use mathlib.Core.List.{List, [], _++_}
 use borrow.Author.Tests.{lt-ltb, le-ltb}
 use lib.Dec.{ltb}
-use lib.ListN.{length}
-use Rattle.algebra.specs.Sums.{sumTo}
-use Rattle.numbers.specs.Words.{word}
 use Rattle.numbers.specs.Refusals.{check, judge, refusal}
 use Rattle.numbers.specs.declared.refusal.Verdict.the-variants.{Pass, Refuse}
 use Rattle.numbers.proofs.RefusalsLaws.{after-pass, take-check, skip-check, none-judged}
-use Rattle.sheet.specs.Layout.{total}
 use Rattle.sheet.specs.Sheet.{Given}
-use Rattle.open.specs.Open.{powersOf, isNone, orNil, needed, openVerdict}
+use Rattle.open.specs.Open.{powersOf, isNone, needed, openVerdict}
 use Rattle.open.specs.Opening.{shapeRows, listRows, splitRows}
-use Rattle.open.proofs.OpenChecksLaws.{Listed, Shape, listed-pass, open-rows-split}
-use Rattle.open.proofs.OpenLaws.{powers-are}
+use Rattle.open.proofs.OpenChecksLaws.{open-rows-split}
 
 module _ (g : Given) (room : ℕ) (pass : judge (shapeRows g ++ listRows g) ≡ Pass) where
   past : openVerdict g room ≡ judge (splitRows g room)
@@ -37,13 +31,3 @@ module _ (g : Given) (room : ℕ) (pass : judge (shapeRows g ++ listRows g) ≡ 
     split-pass h =
         past ∙ skip-check (check 9 (isNone (powersOf g)) 0) _ (ap isNone e) ∙ skip-check (check 10 (ltb room (needed g)) (needed g)) [] (le-ltb room (needed g) h)
         ∙ none-judged
-
-    pub split-size : needed g ≡ total (g .D) (g .N) (length (g .roots)) (word l)
-    unfolding needed
-    split-size = ap (λ o. total (g .D) (g .N) (length (g .roots)) (word (orNil o))) e
-
-    pub split-sum : (length l ≡ length (g .roots)) × (sumTo (length (g .roots)) (word l) ≡ g .D)
-    split-sum =
-        let h = listed-pass g pass in
-        let z = powers-are g (h .shape .modulus .prime) (h .up) (h .shape .roots-below) l .0 e in
-        (z .0, z .1 .degree)

@@ -8,10 +8,9 @@ use mathlib.Core.Logic.{_↔_}
 use mathlib.Core.List.{List}
 use lib.ListN.{length}
 use Rattle.numbers.specs.Words.{over}
-use Rattle.numbers.specs.Refusals.{Outcome, result, written}
+use Rattle.numbers.specs.Refusals.{Outcome, result, written, Leaves}
 use Rattle.numbers.specs.declared.refusal.Verdict.{Verdict}
 use Rattle.numbers.specs.declared.refusal.Verdict.the-variants.{Pass, Refuse}
-use Rattle.pair.specs.Pair.{Leaves}
 use Rattle.numbers.proofs.RefusalsLaws.{One}
 use Rattle.sheet.specs.Sheet.{Given}
 use Rattle.open.specs.Open.{needed, openVerdict, OpenDone, Opened}

@@ -5,34 +5,31 @@
 --   open-done       open's conditions hold of these words over the old ones ..
 --   open-only       .. and of no others
 -- Assumes nothing.
-use Prim.Native.Nat.{ℕ, suc, _+_, _-_, _*_, _≤_, _<_}
+use Prim.Native.Nat.{ℕ, _+_, _-_, _*_, _≤_, _<_}
 use native.Mathlib.Omega.{arith}
 use mathlib.Core.Path.{_≡_, refl, sym, _∙_, ap, ap₂, subst}
-use mathlib.Core.Logic.{_≢_}
-use mathlib.Core.Bool.{Bool, false, not, _||_}
+use mathlib.Core.Bool.{false}
 use mathlib.Core.Option.{Option, none, some}
 use mathlib.Core.List.{List, [], _++_}
-use borrow.Author.Tests.{ltb-true, ltb-false, eqb-true, not-false}
-use lib.Dec.{ltb, eqb}
+use borrow.Author.Tests.{ltb-false}
+use lib.Dec.{ltb}
 use lib.ListN.{length, take, drop, take-append-drop, List·getD-append}
 use lib.Seq.{take-length, drop-at}
-use Rattle.algebra.specs.Fp.{Prime}
-use Rattle.numbers.specs.Words.{word, allTo, firstLarge, outside, lowWord, over}
-use Rattle.numbers.specs.Refusals.{check, modulusChecks, unreduced, largestModulus}
+use Rattle.numbers.specs.Words.{word, over}
+use Rattle.numbers.specs.Refusals.{check}
 use Rattle.numbers.specs.declared.refusal.Verdict.the-variants.{Pass}
-use Rattle.numbers.proofs.WordsLaws.{true-false, below-append, length-over}
-use Rattle.numbers.proofs.TestsLaws.{allTo-at, eqs}
-use Rattle.numbers.proofs.RefusalsLaws.{pass-parts, pass-check, neither, inside, modulus-pass, reduced}
-use Rattle.pair.specs.Pair.{unit}
-use Rattle.sheet.specs.Layout.{modulus, degree, width, terms, count, factorsFrom, end}
-use Rattle.sheet.specs.Sheet.{Sound, Given, given-polynomial, Holds}
-use Rattle.open.specs.Open.{powersOf, isNone, orNil, needed, openVerdict, OpenDone}
+use Rattle.numbers.proofs.WordsLaws.{true-false, length-over}
+use Rattle.numbers.proofs.RefusalsLaws.{pass-parts, pass-check, reduced}
+use Rattle.sheet.specs.Layout.{modulus, degree, width, terms, count}
+use Rattle.sheet.specs.Sheet.{Given, given-polynomial, Holds}
+use Rattle.open.specs.Open.{powersOf, isNone, needed, openVerdict, OpenDone}
 use Rattle.sheet.proofs.RegionsLaws.{in-rows}
 use Rattle.sheet.proofs.ContentLaws.{Content, size, sheetWords, length-sheet}
-use Rattle.sheet.proofs.SheetsLaws.{Good, words-content, words-end, words-sound, sound-ext}
+use Rattle.sheet.proofs.SheetsLaws.{Good, words-content, words-end, words-sound}
 use Rattle.sheet.proofs.UniqueLaws.{holds-unique}
-use Rattle.sheet.proofs.HoldsLaws.{holds-by, holds-ext}
 use Rattle.sheet.proofs.BuildLaws.{built, start, Ready, solved, solved-good, start-good}
+use Rattle.open.specs.Opening.{shapeRows, listRows, splitRows}
+use Rattle.open.proofs.OpenChecksLaws.{listed-pass, open-rows-split}
 use Rattle.open.proofs.OpenLaws.{powers-are, needed-is}
 
 some-of : (o : Option (List ℕ)) → isNone o ≡ false → (l : List ℕ) × (o ≡ some l)
@@ -40,48 +37,36 @@ some-of none e = true-false e
 some-of (some l) e = (l, refl)
 
 -- the powers found, or none
+abbrev pub orNil : Option (List ℕ) → List ℕ
+orNil none = []
+orNil (some l) = l
+
 abbrev pub powers : Given → ℕ → ℕ
 powers g = word (orNil (powersOf g))
 
 abbrev pub GivenReady : Given → Type 0
 GivenReady g = Ready (g .p) (g .D) (g .N) (length (g .roots)) (word (g .roots)) (powers g) (given-polynomial g)
 
-module _ (g : Given) (room : ℕ) (pass : openVerdict g room ≡ Pass) where
-  abbrev up-test : ℕ → Bool
-  up-test i = ltb (word (g .roots) i) (word (g .roots) (suc i))
-
-  pub open-ready : GivenReady g × (needed g ≤ room)
-  unfolding openVerdict
-  open-ready =
-      let m = pass-parts (modulusChecks (g .p)) _ pass in
-      let range = inside 2 largestModulus (g .p) (pass-check (check 1 (outside 2 largestModulus (g .p)) 0) _ (m .0) .0) in
-      let c₃ = pass-check (check 3 (outside 1 32 (g .D)) 0) _ (m .1) in
-      let d = inside 1 32 (g .D) (c₃ .0) in
-      let c₄ = pass-check (check 4 (outside 1 256 (g .N)) 0) _ (c₃ .1) in
-      let n = inside 1 256 (g .N) (c₄ .0) in
-      let c₅ = pass-check (check 5 (not (eqb (length (g .rows)) ((g .D + 1) * g .N))) 0) _ (c₄ .1) in
-      let long : length (g .rows) ≡ (g .D + 1) * g .N = eqb-true _ _ (not-false _ (c₅ .0)) in
-      let c₆ = pass-check (check 6 (unreduced (g .p) (g .rows ++ g .roots)) (lowWord (firstLarge (g .p) (g .rows ++ g .roots)))) _ (c₅ .1) in
-      let low = below-append (g .p) (g .rows) (g .roots) (reduced (g .p) (g .rows ++ g .roots) (c₆ .0)) in
-      let c₇ = pass-check (check 7 (not (allTo (g .N) (λ t. eqb (given-polynomial g (g .D) t) (unit t)))) 0) _ (c₆ .1) in
-      let c₈ = pass-check (check 8 (outside 1 (g .D) (length (g .roots)) || not (allTo (length (g .roots) - 1) up-test)) 0) _ (c₇ .1) in
-      let up = not-false (allTo (length (g .roots) - 1) up-test) (neither (outside 1 (g .D) (length (g .roots))) (not (allTo (length (g .roots) - 1) up-test)) (c₈ .0) .1) in
-      let c₉ = pass-check (check 9 (isNone (powersOf g)) 0) _ (c₈ .1) in
-      let (l, e) = some-of (powersOf g) (c₉ .0) in
-      let prime : Prime (g .p) = modulus-pass (g .p) (m .0) .prime in (
-        record {
-          prime = prime;
-          small = range .1;
-          degree-low = d .0;
-          degree-high = d .1;
-          width-low = n .0;
-          width-high = n .1;
-          reduced = λ j u t v. low .0 (0 + j * g .N + t) (omega (arith, in-rows (g .D + 1) (g .N) j t (omega arith) v));
-          top = eqs (g .N) _ _ .0 (not-false (allTo (g .N) (λ t. eqb (given-polynomial g (g .D) t) (unit t))) (c₇ .0));
-          splits = rw e (powers-are g prime (λ i u. ltb-true _ _ (allTo-at (length (g .roots) - 1) up-test up i (omega arith))) (low .1) l .0 e .1);
-        },
-        ltb-false room (needed g) (pass-check (check 10 (ltb room (needed g)) (needed g)) [] (c₉ .1) .0),
-      )
+pub open-ready : (g : Given) (room : ℕ) → openVerdict g room ≡ Pass → GivenReady g × (needed g ≤ room)
+open-ready g room pass =
+    let parts = pass-parts (shapeRows g ++ listRows g) (splitRows g room) (sym (open-rows-split g room) ∙ pass) in
+    let h = listed-pass g (parts .0) in
+    let s = h .shape in
+    let c₉ = pass-check (check 9 (isNone (powersOf g)) 0) _ (parts .1) in
+    let (l, e) = some-of (powersOf g) (c₉ .0) in (
+      record {
+        prime = s .modulus .prime;
+        small = s .small;
+        degree-low = s .degree-low;
+        degree-high = s .degree-high;
+        width-low = s .width-low;
+        width-high = s .width-high;
+        reduced = λ j u t v. s .rows-below (0 + j * g .N + t) (let n = s .long in omega (arith, in-rows (g .D + 1) (g .N) j t (omega arith) v));
+        top = h .top;
+        splits = rw e (powers-are g (s .modulus .prime) (h .up) (s .roots-below) l .0 e .1);
+      },
+      ltb-false room (needed g) (pass-check (check 10 (ltb room (needed g)) (needed g)) [] (c₉ .1) .0),
+    )
 
 -- a slice that begins with the words of good content built on what open was given
 holds-built : (g : Given) (k : ℕ) (a : ℕ → ℕ → ℕ → ℕ) (s : List ℕ)

@@ -1,20 +1,18 @@
 -- The powers that repeated division finds are those of `powersOf`.
 --   gives-splits, splits-gives   powers of the roots give column 0 of the polynomial over F_p exactly where they give it by number
---   found-some, found-none       so what `find_powers` answers is what row 9 asks
+--   found-answer                 so what `find_powers` answers is what row 9 asks
 --   first-long, .., powers-answer   column 0, loaded at the front of an array, and what is found from it
 -- Assumes nothing.
-use Prim.Native.Nat.{ℕ, zero, suc, _+_, _-_, _*_, _≤_, _<_, Fin}
+use Prim.Native.Nat.{ℕ, zero, _+_, _-_, _*_, _≤_, _<_, Fin}
 use native.Mathlib.Nat.{lt-of-not-le}
 use native.Mathlib.Bridge.{le-prop}
 use native.Mathlib.Decide.{decLe}
 use native.Mathlib.Omega.{arith}
-use mathlib.Core.Path.{_≡_, refl, sym, _∙_, ap, subst, fun-ext}
-use mathlib.Core.Bool.{Bool, true, false}
-use mathlib.Core.Option.{none, some}
+use mathlib.Core.Path.{_≡_, sym, _∙_, ap, subst, fun-ext}
+use mathlib.Core.Bool.{Bool}
 use mathlib.Core.List.{List, _++_}
 use lib.ListN.{length, take, length-append, List·getD-eq-default}
 use lib.Seq.{length-take-le, take-at}
-use Rattle.algebra.specs.Sums.{sumTo}
 use Rattle.algebra.specs.Ring.{CommRing, prod}
 use Rattle.algebra.specs.Series.{Series}
 use Rattle.algebra.specs.Poly.{linPow}
@@ -24,14 +22,12 @@ use Rattle.algebra.specs.Bridge.{same-rem, rem-zero}
 use Rattle.numbers.specs.Words.{word, tabulate, AllBelow}
 use Rattle.numbers.proofs.WordsLaws.{length-tabulate, word-tabulate}
 use Rattle.rows.proofs.RowsLaws.{row-fits}
-use Rattle.sheet.specs.Factors.{split}
 use Rattle.sheet.specs.Sheet.{Given, given-polynomial}
-use Rattle.open.specs.Open.{powersOf}
 use Rattle.open.specs.Opening.{PowersAnswer}
 use Rattle.open.specs.Powers.{overField, GivesPowers, FoundPowers}
-use Rattle.sheet.proofs.FactorsLaws.{product-lt, rootsOf}
-use Rattle.sheet.proofs.ExistsLaws.{Splits, split-rem}
-use Rattle.open.proofs.OpenChecksLaws.{Shape, Listed}
+use Rattle.split.proofs.FactorsLaws.{product-lt, rootsOf}
+use Rattle.sheet.proofs.ExistsLaws.{split-rem}
+use Rattle.open.proofs.OpenChecksLaws.{Listed}
 use Rattle.open.proofs.OpenLaws.{Rising, Reduced, GivenSplits, powers-are, powers-none}
 
 module _ (g : Given) (prime : Prime (g .p)) (up : Rising g) (low : Reduced g) (e : List ℕ) (long : length e ≡ g .D + 1)
@@ -69,12 +65,6 @@ module _ (g : Given) (prime : Prime (g .p)) (up : Rising g) (low : Reduced g) (e
           let z = lt-of-not-le l in
           ap (rem (g .p) pos) (List·getD-eq-default e 0 (let y : length e ≤ j = omega arith in y)) ∙ rem-zero (g .p) pos
           ∙ sym (at-zero-below K (length (g .roots)) (rootsOf prime (word (g .roots))) m j (let s = S .degree in omega arith))
-
-  pub found-some : (ps : List ℕ) → length ps ≡ length (g .roots) → FoundPowers (g .p) (g .roots) e true ps → powersOf g ≡ some ps
-  found-some ps n f = powers-are g prime up low ps .1 (n, gives-splits (word ps) (f .yes refl))
-
-  pub found-none : (ps : List ℕ) → FoundPowers (g .p) (g .roots) e false ps → powersOf g ≡ none
-  found-none ps f = powers-none g prime up low .1 (λ l _ S. f .no refl (word l) (splits-gives (word l) S))
 
   pub found-answer : (found : Bool) (ps : List ℕ) → length ps ≡ length (g .roots) → FoundPowers (g .p) (g .roots) e found ps → PowersAnswer g found ps
   found-answer found ps n f = record {

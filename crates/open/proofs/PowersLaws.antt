@@ -10,16 +10,16 @@ use mathlib.Core.Path.{_≡_, refl, sym, _∙_, ap, subst}
 use mathlib.Core.List.{List, _++_}
 use lib.ListN.{length, take, drop, length-append, length-drop}
 use lib.Seq.{getD-drop, getD-append-add, length-take-le, drop-append-add}
-use Rattle.algebra.specs.Ring.{CommRing, ring, mul-comm, mul-assoc, zero-add, pow-zero-mul, pow-suc-mul}
+use Rattle.algebra.specs.Ring.{CommRing, ring, zero-add, pow-zero-mul, pow-suc-mul}
 use Rattle.algebra.specs.Series.{Series}
 use Rattle.algebra.specs.Poly.{const, const-zero, lin, linPow}
 use Rattle.algebra.specs.Fp.{Fp, rem}
 use Rattle.algebra.specs.Bridge.{rem-zero}
 use Rattle.numbers.specs.Words.{word, AllBelow}
 use Rattle.numbers.proofs.WordsLaws.{word-tabulate, from, from-is}
-use Rattle.pair.specs.Column.{hornerWord, hornerWords}
-use Rattle.pair.proofs.ColumnLaws.{horner-word-suc, horner-word-none, horner-words-at, horner-below, length-horner, putFrom, put-from, append-below, take-below, drop-below}
-use Rattle.pair.proofs.SolveLaws.{pol-div}
+use Rattle.columns.specs.Column.{hornerWord, hornerWords}
+use Rattle.columns.proofs.ColumnLaws.{horner-word-suc, horner-word-none, horner-words-at, horner-below, length-horner, putFrom, put-from, append-below, take-below, drop-below}
+use Rattle.columns.proofs.SolveLaws.{pol-div}
 use Rattle.open.specs.Powers.{overField, Divided, DividedOut}
 
 pub value-starts : (p c : ℕ) (e : List ℕ) → 0 ≡ hornerWord p c (length e - length e) (word e) (length e)

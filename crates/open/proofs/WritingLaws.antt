@@ -1,10 +1,8 @@
 -- Tables, part after part, as the functions that write a fresh sheet leave them.
---   tabulate-words                a list is made of its words
---   table-append                  the first rows of a table, then the others
---   flat-row, flat-cut            the rows of a polynomial in Y alone
+--   flat-row                      a row of a polynomial in Y alone
 --   header-words                  the header
 --   pair-more                     a root and its power more
---   line-is, line-rows            the words of an array that has (Y − c)^m at its front, and their rows
+--   line-long, line-lower, line-rows   the words of an array that has (Y − c)^m at its front, and their rows
 --   factors-none, factors-more, factors-all   the factors, one after the other
 -- Assumes nothing.
 use Prim.Native.Nat.{ℕ, zero, suc, _+_, _-_, _*_, _≤_, _<_}
@@ -16,23 +14,18 @@ use mathlib.Core.List.{List, [], _∷_, _++_, append-assoc, append-nil}
 use lib.ListN.{length, take, drop, set, length-append, length-drop}
 use lib.Seq.{ext-getD, getD-take, take-at, length-take-le}
 use Rattle.algebra.specs.Sums.{sumTo, sumTo-zero, sumTo-suc, sumTo-mono}
-use Rattle.numbers.specs.Words.{word, tabulate, over, AllBelow}
-use Rattle.numbers.proofs.WordsLaws.{length-tabulate, word-tabulate, tabulate-ext, tabulate-below, Writing, writing-none, writing-store, writing-part, over-whole}
+use Rattle.numbers.specs.Words.{word, tabulate, over}
+use Rattle.numbers.proofs.WordsLaws.{length-tabulate, word-tabulate, tabulate-ext, Writing, writing-none, writing-store, writing-part, over-whole}
 use Rattle.rows.specs.Rows.{table}
-use Rattle.rows.proofs.RowsLaws.{zeros, table-none, table-suc, length-table, table-ext, line-lt}
-use Rattle.pair.specs.Lifting.{firstOnly}
-use Rattle.sheet.specs.Factors.{rootPower, flat}
-use Rattle.sheet.specs.Layout.{polynomialFrom, factorsFrom, cofactorsFrom}
-use Rattle.sheet.proofs.LineLaws.{front-words}
+use Rattle.rows.proofs.RowsLaws.{zeros, table-none, table-suc, length-table, table-ext}
+use Rattle.columns.specs.Column.{firstOnly}
+use Rattle.split.specs.Factors.{rootPower, flat}
+use Rattle.sheet.specs.Layout.{polynomialFrom, factorsFrom}
 use Rattle.sheet.proofs.BuildLaws.{start, stacked, stacked-is, cut, cut-low, cut-high}
 use Rattle.open.specs.Writing.{degreeOf, headerOf, rootTable, factorTable}
+use Rattle.open.proofs.LineLaws.{front-words}
 
-pub tabulate-words : (s : List ℕ) → tabulate (length s) (word s) ≡ s
-tabulate-words s =
-    ext-getD 0 (tabulate (length s) (word s)) s (length-tabulate (length s) (word s))
-    (λ i l. word-tabulate (length s) (word s) i (omega (arith, length-tabulate (length s) (word s))))
-
-pub table-append : (a b N : ℕ) (f : ℕ → ℕ → ℕ) → table (a + b) N f ≡ table a N f ++ table b N (λ j. f (a + j))
+table-append : (a b N : ℕ) (f : ℕ → ℕ → ℕ) → table (a + b) N f ≡ table a N f ++ table b N (λ j. f (a + j))
 unfolding table
 table-append a zero N f = ap (λ n. table n N f) (add-zero a) ∙ sym (append-nil (table a N f))
 table-append a (suc b) N f =
@@ -51,14 +44,14 @@ flat-same : (a b : ℕ → ℕ) (j t : ℕ) → a j ≡ b j → flat a j t ≡ f
 flat-same a b j zero e = e
 flat-same a b j (suc t) e = refl
 
-pub flat-cut : (b : ℕ → ℕ → ℕ) (a : ℕ → ℕ) (j q t : ℕ) → a j ≡ b q 0 → flat a j t ≡ cut 1 b q t
+flat-cut : (b : ℕ → ℕ → ℕ) (a : ℕ → ℕ) (j q t : ℕ) → a j ≡ b q 0 → flat a j t ≡ cut 1 b q t
 flat-cut b a j q zero e = e ∙ sym (cut-low 1 b q 0 (omega arith))
 flat-cut b a j q (suc t) e = sym (cut-high 1 b q (suc t) (omega arith))
 
 -- the header
-pub header-words : (p D N r T x y z : ℕ) (old : List ℕ) → x ≡ polynomialFrom r → y ≡ factorsFrom D N r → z ≡ cofactorsFrom D N r
-    → over (p ∷ D ∷ N ∷ 1 ∷ r ∷ 10 ∷ x ∷ y ∷ z ∷ T ∷ []) old ≡ over (headerOf p D N r T) old
-header-words p D N r T x y z old a b e = rw (a, b, e)
+pub header-words : (p D N r T x y : ℕ) (old : List ℕ) → x ≡ polynomialFrom r → y ≡ factorsFrom D N r
+    → over (p ∷ D ∷ N ∷ 1 ∷ r ∷ 10 ∷ x ∷ y ∷ T ∷ T ∷ []) old ≡ over (headerOf p D N r T) old
+header-words p D N r T x y old a b = rw (a, b)
 
 -- a root and its power
 pub pair-more : (roots powers old out : List ℕ) (i : ℕ) → Writing (table i 2 (rootTable roots powers)) old out → 2 * i + 2 ≤ length old
@@ -74,11 +67,8 @@ pair-more roots powers old out i w h =
 
 -- the array that has (Y − c)^m at its front
 module _ (p x m : ℕ) (ws : List ℕ) (small : m ≤ 32) (e : ws ≡ tabulate (length (take (m + 1) zeros)) (rootPower p x (length (take (m + 1) zeros) - 1))) where
-  line-words : ws ≡ tabulate (m + 1) (rootPower p x m)
-  line-words = front-words m small p x ws e
-
   words-long : length ws ≡ m + 1
-  words-long = ap length line-words ∙ length-tabulate (m + 1) (rootPower p x m)
+  words-long = ap length (front-words m small p x ws e) ∙ length-tabulate (m + 1) (rootPower p x m)
 
   pub line-long : length (ws ++ drop (m + 1) zeros) ≡ 33
   line-long =
@@ -86,14 +76,8 @@ module _ (p x m : ℕ) (ws : List ℕ) (small : m ≤ 32) (e : ws ≡ tabulate (
       let b = words-long in
       length-append ws (drop (m + 1) zeros) ∙ (let z : length ws + length (drop (m + 1) zeros) ≡ 33 = omega arith in z)
 
-  pub line-taken : length (take (m + 1) (ws ++ drop (m + 1) zeros)) ≡ m + 1
-  line-taken = length-take-le (m + 1) (ws ++ drop (m + 1) zeros) (let z = line-long in omega arith)
-
-  pub line-is : take (m + 1) (ws ++ drop (m + 1) zeros) ≡ tabulate (m + 1) (rootPower p x m)
-  line-is = take-at ws (drop (m + 1) zeros) (m + 1) words-long ∙ line-words
-
-  pub line-below : 2 ≤ p → AllBelow p (take (m + 1) (ws ++ drop (m + 1) zeros))
-  line-below two = subst (AllBelow p) (sym line-is) (tabulate-below p (m + 1) (rootPower p x m) (λ j _. line-lt p (p - x) m j two))
+  line-is : take (m + 1) (ws ++ drop (m + 1) zeros) ≡ tabulate (m + 1) (rootPower p x m)
+  line-is = take-at ws (drop (m + 1) zeros) (m + 1) words-long ∙ front-words m small p x ws e
 
   -- its rows, without the leading 1
   pub line-lower : length (take m (ws ++ drop (m + 1) zeros)) ≡ m

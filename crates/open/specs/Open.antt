@@ -12,10 +12,10 @@ use mathlib.Core.List.{List, [], _∷_, _++_, map}
 use lib.Dec.{ltb, eqb}
 use lib.ListN.{length, drop}
 use Rattle.numbers.specs.Words.{word, allTo, firstLarge, outside, lowWord}
-use Rattle.numbers.specs.Refusals.{Check, check, judge, Outcome, result, modulusChecks, unreduced}
+use Rattle.numbers.specs.Refusals.{Check, check, judge, Outcome, result, modulusChecks, unreduced, Leaves}
 use Rattle.numbers.specs.declared.refusal.Verdict.{Verdict}
-use Rattle.pair.specs.Pair.{unit, Leaves}
-use Rattle.sheet.specs.Factors.{split}
+use Rattle.rows.specs.Rows.{unit}
+use Rattle.split.specs.Factors.{split}
 use Rattle.sheet.specs.Layout.{total, end}
 use Rattle.sheet.specs.Sheet.{Given, given-polynomial, Holds}
 
@@ -44,13 +44,9 @@ abbrev pub isNone : {A : Type 0} → Option A → Bool
 isNone none = true
 isNone (some a) = false
 
-abbrev pub orNil : Option (List ℕ) → List ℕ
-orNil none = []
-orNil (some l) = l
-
 -- T, from what open is given
 unfoldable pub needed : Given → ℕ
-needed g = total (g .D) (g .N) (length (g .roots)) (word (orNil (powersOf g)))
+needed g = total (g .D) (g .N) (length (g .roots))
 
 -- `room` is the length of the output
 abbrev pub openChecks : Given → ℕ → List Check

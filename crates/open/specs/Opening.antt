@@ -17,7 +17,7 @@ use lib.ListN.{length, take}
 use Rattle.numbers.specs.Words.{word, allTo, firstLarge, outside, lowWord}
 use Rattle.numbers.specs.Refusals.{Check, check, Outcome, result, modulusChecks, unreduced}
 use Rattle.numbers.specs.declared.refusal.Verdict.the-variants.{Pass}
-use Rattle.pair.specs.Pair.{unit}
+use Rattle.rows.specs.Rows.{unit}
 use Rattle.sheet.specs.Sheet.{Given, given-polynomial}
 use Rattle.open.specs.Open.{powersOf, isNone, needed, openVerdict}
 

@@ -11,12 +11,12 @@ use mathlib.Core.Bool.{Bool, true, false}
 use mathlib.Core.List.{List}
 use lib.ListN.{length, drop}
 use Rattle.algebra.specs.Sums.{sumTo}
-use Rattle.algebra.specs.Ring.{CommRing, prod}
+use Rattle.algebra.specs.Ring.{prod}
 use Rattle.algebra.specs.Series.{Series}
 use Rattle.algebra.specs.Poly.{linPow}
 use Rattle.algebra.specs.Fp.{Prime, Fp, p-pos, rem}
 use Rattle.numbers.specs.Words.{word, AllBelow}
-use Rattle.pair.specs.Column.{hornerWord}
+use Rattle.columns.specs.Column.{hornerWord}
 
 abbrev pub overField : (p : ℕ) (pos : zero < p) → List ℕ → ℕ → Fin p
 overField p pos s j = rem p pos (word s j)

@@ -2,27 +2,24 @@
 --   degreeOf powers              D, the sum of the powers
 --   headerOf, rootTable          the header's words, and the roots with their powers
 --   factorTable ..               the factors' rows, 0 from column 1 on: at X = 0 factor i is (Y − c_i)^(m_i)
---   cofactorCount ..             the number of the cofactors' rows
---   cofactorTable ..             these rows: each cofactor is the product of the factors after its own
 --   freshContent, freshWords     what the sheet holds, and its words
 --   FreshReady                   what writing them needs
 -- Assumes nothing.
-use Prim.Native.Nat.{ℕ, zero, suc, _-_}
+use Prim.Native.Nat.{ℕ, zero, suc}
 use mathlib.Core.List.{List, [], _∷_}
 use lib.ListN.{length}
 use Rattle.algebra.specs.Sums.{sumTo}
 use Rattle.numbers.specs.Words.{word}
-use Rattle.sheet.specs.Layout.{rootsFrom, polynomialFrom, factorsFrom, cofactorsFrom, codegree}
+use Rattle.sheet.specs.Layout.{rootsFrom, polynomialFrom, factorsFrom}
 use Rattle.sheet.specs.Sheet.{Given, given-polynomial}
 use Rattle.sheet.proofs.ContentLaws.{Content, sheetWords}
-use Rattle.sheet.proofs.SheetsLaws.{after}
 use Rattle.sheet.proofs.BuildLaws.{built, start, stacked, cut, Ready}
 
 abbrev pub degreeOf : List ℕ → ℕ
 degreeOf powers = sumTo (length powers) (word powers)
 
 abbrev pub headerOf : (p D N r T : ℕ) → List ℕ
-headerOf p D N r T = p ∷ D ∷ N ∷ 1 ∷ r ∷ rootsFrom ∷ polynomialFrom r ∷ factorsFrom D N r ∷ cofactorsFrom D N r ∷ T ∷ []
+headerOf p D N r T = p ∷ D ∷ N ∷ 1 ∷ r ∷ rootsFrom ∷ polynomialFrom r ∷ factorsFrom D N r ∷ T ∷ T ∷ []
 
 -- root, then power
 abbrev pub rootTable : (roots powers : List ℕ) → ℕ → ℕ → ℕ
@@ -31,13 +28,6 @@ rootTable roots powers i (suc t) = word powers i
 
 abbrev pub factorTable : (p : ℕ) (roots powers : List ℕ) → ℕ → ℕ → ℕ
 factorTable p roots powers = cut 1 (stacked (length roots) (word powers) (start p (word roots) (word powers)))
-
--- the number of the cofactors' rows
-abbrev pub cofactorCount : (D : ℕ) (roots powers : List ℕ) → ℕ
-cofactorCount D roots powers = sumTo (length roots - 2) (codegree D (word powers))
-
-abbrev pub cofactorTable : (p D : ℕ) (roots powers : List ℕ) → ℕ → ℕ → ℕ
-cofactorTable p D roots powers = cut 1 (stacked (length roots - 2) (codegree D (word powers)) (after p (length roots) (word powers) (start p (word roots) (word powers))))
 
 abbrev pub freshContent : Given → List ℕ → Content
 freshContent g powers = built (g .p) (g .D) (g .N) 1 (length (g .roots)) (word (g .roots)) (word powers) (given-polynomial g) (start (g .p) (word (g .roots)) (word powers))

@@ -5,18 +5,16 @@ use numbers::refusal::Answer;
 use numbers::refusal::Refusal;
 use numbers::refusal::Verdict;
 use numbers::refusal::refuse;
-use sheet::layout::cofactors_from;
+use sheet::layout;
 ghost use mathlib.Core.Path.{_≡_};
 ghost use mathlib.Core.List.{_++_};
 ghost use Prim.Native.Nat.{ℕ, suc, _+_, _-_, _*_, _≤_, _<_};
-ghost use lib.ListN.{length, take, drop};
-ghost use Rattle.algebra.specs.Sums.{sumTo};
+ghost use lib.ListN.{length};
 ghost use Rattle.algebra.specs.Fp.{Prime};
 ghost use Rattle.numbers.specs.Words.{word, lowWord, AllBelow};
 ghost use Rattle.numbers.specs.Refusals.{judge, outcome};
 ghost use Rattle.numbers.specs.declared.refusal.Verdict.the-variants.{Pass};
-ghost use Rattle.pair.specs.Column.{hornerWord};
-ghost use Rattle.sheet.specs.Layout.{total};
+ghost use Rattle.columns.specs.Column.{hornerWord};
 ghost use Rattle.sheet.specs.Sheet.{Given};
 ghost use Rattle.open.specs.Powers.{DividedOut, FoundPowers};
 ghost use Rattle.open.specs.Opening.{isUnit, rising, shapeRows, listRows, PowersAnswer, CheckedOpen};
@@ -147,7 +145,7 @@ fn divide_out(p: u32, c: u32, at: usize, e: &mut [u32]) -> usize
         if value(p, c, &e[a..]) != 0 {
             break;
         }
-        pair::kernel::horner(p, c, &mut e[a..]);
+        columns::horner(p, c, &mut e[a..]);
         a += 1;
     }
     a
@@ -181,25 +179,8 @@ fn powers_of(p: u32, d: u32, n: u32, rows: &[u32], roots: &[u32], powers: &mut [
 {
     let size = d as usize + 1;
     let mut e = [0u32; 33];
-    pair::kernel::load_column(rows, n as usize, 0, &mut e[..size]);
+    columns::load_column(rows, n as usize, 0, &mut e[..size]);
     find_powers(p, roots, &mut e[..size], powers)
-}
-
-// T, from the powers.
-fn size_of(d: usize, n: usize, powers: &[u32]) -> usize
-    requires { ⌜ (d ≤ 32) × (n ≤ 256) × (length (now powers) ≤ 32) × (sumTo (length (now powers)) (word (now powers)) ≤ d) ⌝ }
-    ensures { λ o. ⌜ o ≡ total d n (length (now (powers .entry))) (word (now (powers .entry))) ⌝ }
-{
-    let r = powers.len();
-    let mut left = d;
-    let mut sum = 0;
-    let mut i = 0;
-    while i + 2 < r {
-        left -= powers[i] as usize;
-        sum += left;
-        i += 1;
-    }
-    cofactors_from(d, n, r) + sum * n
 }
 
 // Rows 1 to 10. The answer is T, and the powers of the roots stand first in `powers`.
@@ -225,7 +206,7 @@ pub fn check_open(
             detail: 0,
         });
     }
-    let total = size_of(d as usize, n as usize, &powers[..count]);
+    let total = layout::total_of(d as usize, n as usize, count);
     if room < total {
         return Answer::Refused(Refusal {
             number: 10,

@@ -1,15 +1,14 @@
 -- What `pair` and `pair_continue` answer and leave.
---   leave-refused, leave-done   an answer and what it leaves, after a verdict
 --   pair-pass, continue-pass    what the checks say of the input where they pass
 --   lifting-of                  what the lift wants, from the checks
 --   done-unique, continued-keeps   continuing and starting agree; only columns h..w − 1 change
 --   start-done                  column 0 of f over the first words is the pair to one term
 -- Assumes nothing.
-use Prim.Native.Nat.{ℕ, zero, suc, _+_, _*_, _≤_, _<_}
+use Prim.Native.Nat.{ℕ, zero, _+_, _*_, _≤_, _<_}
 use native.Mathlib.Omega.{arith}
-use mathlib.Core.Path.{_≡_, refl, sym, ap, subst, _∙_}
-use mathlib.Core.Bool.{false, not, _||_}
-use mathlib.Core.List.{List, [], _∷_, _++_}
+use mathlib.Core.Path.{_≡_, sym, ap, _∙_}
+use mathlib.Core.Bool.{not, _||_}
+use mathlib.Core.List.{List, [], _∷_}
 use borrow.Author.Tests.{ltb-false, not-false}
 use lib.Dec.{ltb}
 use mathlib.Core.Logic.{_⊎_, ⊎-elim}
@@ -17,26 +16,17 @@ use lib.ListN.{length, take, drop, List·getD-append}
 use lib.Seq.{drop-at}
 use Rattle.algebra.specs.Fp.{Prime}
 use Rattle.numbers.specs.Words.{word, over, outside}
-use Rattle.numbers.specs.Refusals.{Check, check, Outcome, accepted, refused, result, judge}
-use Rattle.numbers.specs.declared.refusal.Refusal.{Refusal}
-use Rattle.numbers.specs.declared.refusal.Verdict.{Verdict}
-use Rattle.numbers.specs.declared.refusal.Verdict.the-variants.{Pass, Refuse}
+use Rattle.numbers.specs.Refusals.{check, judge}
+use Rattle.numbers.specs.declared.refusal.Verdict.the-variants.{Pass}
 use Rattle.numbers.proofs.WordsLaws.{length-over}
 use Rattle.numbers.proofs.RefusalsLaws.{pass-parts, pass-check, neither, inside}
 use Rattle.rows.specs.Rows.{table}
 use Rattle.rows.proofs.RowsLaws.{length-table, word-table, row-fits}
-use Rattle.pair.specs.Pair.{order, firstChecks, pairChecks, continueChecks, pairTest, Leaves, PairWords, PairDone}
+use Rattle.pair.specs.Pair.{order, firstChecks, pairChecks, continueChecks, pairTest, PairWords, PairDone}
 use Rattle.pair.specs.Lifting.{startRows, Lifting}
 use Rattle.pair.proofs.TestLaws.{First, first-pass}
 use Rattle.pair.proofs.LiftLaws.{start-words}
 use Rattle.pair.proofs.PairWordsLaws.{test-pair, words-unique, words-agree}
-
-pub leave-refused : {v : Verdict} (r : Refusal) (x : ℕ) (Done : Type 0) (s : List ℕ) → v ≡ Refuse r
-    → (_≡_ {A = Outcome ℕ} (refused (r .number) (r .detail)) (result v x)) × Leaves v Done s s
-leave-refused r x Done s e = (subst (λ v. _≡_ {A = Outcome ℕ} (refused (r .number) (r .detail)) (result v x)) (sym e) refl, subst (λ v. Leaves v Done s s) (sym e) refl)
-
-pub leave-done : {v : Verdict} (o x : ℕ) (Done : Type 0) (old new : List ℕ) → v ≡ Pass → o ≡ x → Done → (_≡_ {A = Outcome ℕ} (accepted o) (result v x)) × Leaves v Done old new
-leave-done o x Done old new e q h = (subst (λ v. _≡_ {A = Outcome ℕ} (accepted o) (result v x)) (sym e) (ap accepted q), subst (λ v. Leaves v Done old new) (sym e) h)
 
 pub lifting-of : (p D N : ℕ) (f : List ℕ) (room d t : ℕ) (s : List ℕ) → First p D N f room → d ≡ order D N f → room ≤ length s → PairWords p D N f t s → Lifting p D N f d t s
 lifting-of p D N f room d t s first e fits words =

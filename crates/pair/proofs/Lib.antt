@@ -1,6 +1,3 @@
-pub mod ColumnLaws
-pub mod SolveLaws
-pub mod MonicLaws
 pub mod PairLaws
 pub mod PairWordsLaws
 pub mod LiftLaws

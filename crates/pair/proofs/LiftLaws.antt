@@ -4,33 +4,33 @@
 --   lift-step        a column that solves for what is left makes the pair one term longer
 --   done-step        .. and so step by step
 -- Assumes nothing.
-use Prim.Native.Nat.{ℕ, zero, suc, _+_, _-_, _*_, _%_, _≤_, _<_, zero-le, Fin}
-use native.Mathlib.Nat.{eq-or-lt-of-le, mod-lt, add-mul, mul-le-mul, mul-comm, mod-eq-of-lt, add-zero, zero-mul, sub-zero}
+use Prim.Native.Nat.{ℕ, zero, suc, _+_, _-_, _*_, _%_, _≤_, _<_}
+use native.Mathlib.Nat.{eq-or-lt-of-le, mod-lt, add-mul, mul-le-mul, mul-comm, mod-eq-of-lt, add-zero, zero-mul}
 use native.Mathlib.Omega.{arith}
 use mathlib.Core.Path.{_≡_, refl, sym, _∙_, ap, ap₂, subst, fun-ext}
 use mathlib.Core.Logic.{_≢_, _⊎_, ⊎-elim}
-use mathlib.Core.List.{List, [], _∷_, _++_}
+use mathlib.Core.List.{List, _++_}
 use lib.ListN.{length, take, drop, length-take, length-drop, length-append, List·getD-eq-default}
 use lib.Seq.{ext-getD, getD-take, getD-drop, length-take-le, take-at, drop-append-le}
-use Rattle.algebra.specs.Fp.{Prime, Fp, p-pos, rem}
+use Rattle.algebra.specs.Fp.{Prime, Fp, p-pos}
 use Rattle.algebra.specs.Bridge.{same-rem, rem-zero}
 use Rattle.algebra.specs.Poly.{linPow}
 use Rattle.numbers.specs.Words.{word, tabulate, over, AllBelow}
 use Rattle.numbers.specs.Divisor.{inverseOf}
 use Rattle.numbers.proofs.WordsLaws.{lt-or-ge, length-tabulate, word-tabulate, length-over, from, length-from, word-from}
 use Rattle.series.proofs.QuotientLaws.{inverse-law}
-use Rattle.rows.specs.Rows.{rowsOf, table, mul, linePower}
+use Rattle.rows.specs.Rows.{mul, linePower, unit, monic}
 use Rattle.rows.specs.Passes.{passSum}
-use Rattle.rows.proofs.RowsLaws.{rows-below, rows-past, rows-bound, row-fits, length-table, word-table, line-lt}
+use Rattle.rows.proofs.RowsLaws.{rows-below, rows-past, rows-bound, line-lt}
 use Rattle.rows.proofs.MulLaws.{mul-ext}
-use Rattle.pair.specs.Pair.{unit, monic, order, given, lowRows, highRows, IsPair, PairWords, PairDone}
-use Rattle.pair.specs.Column.{hornerWord, hornerWords, digits, undigits, middleSum, lowPart, highPart, Solves, ColumnStored, Prepared}
-use Rattle.pair.specs.Lifting.{firstOnly, startRows, Lifting}
-use Rattle.pair.proofs.MonicLaws.{monic-low, monic-top, monic-above, monic-later, monic-ext, by-place}
+use Rattle.pair.specs.Pair.{order, given, lowRows, highRows, PairWords, PairDone}
+use Rattle.columns.specs.Column.{hornerWord, hornerWords, digits, undigits, middleSum, lowPart, highPart, Solves, ColumnStored, Prepared, firstOnly}
+use Rattle.pair.specs.Lifting.{startRows, Lifting}
+use Rattle.rows.proofs.MonicLaws.{monic-low, monic-top, monic-above, monic-later, monic-ext, by-place}
 use Rattle.pair.proofs.PairLaws.{first-high, first-low, monic-first}
-use Rattle.pair.proofs.PairWordsLaws.{by-row, order-there, order-least, low-word, high-word, high-past}
-use Rattle.pair.proofs.ColumnLaws.{length-digits, length-undigits, horner-word-suc, horner-below, length-horner, horner-words-at, horner-word-rest}
-use Rattle.pair.proofs.SolveLaws.{poly, line-power, solve-solves, column-lifts, pass-ext}
+use Rattle.pair.proofs.PairWordsLaws.{order-there, order-least, low-word, high-word, high-past}
+use Rattle.columns.proofs.ColumnLaws.{length-digits, length-undigits, horner-word-suc, horner-below, length-horner, horner-words-at, horner-word-rest}
+use Rattle.columns.proofs.SolveLaws.{line-power, solve-solves, column-lifts, pass-ext}
 
 -- column 0 of s is that of f: rows below d are 0 there, and A is f moved down by d rows
 module _ (p D N : ℕ) (f : List ℕ) (prime : Prime p) (below : AllBelow p f) (bound : order D N f ≤ D) where

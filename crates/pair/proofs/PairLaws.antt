@@ -5,7 +5,7 @@
 --   pair-b, pair-c     the rows of P below d, and of A
 --   pair-is            they are the pair, to any number of terms
 -- Assumes nothing.
-use Prim.Native.Nat.{ℕ, zero, suc, _+_ as _+ₙ_, _-_, _≤_, _<_, zero-le, Fin}
+use Prim.Native.Nat.{ℕ, zero, suc, _+_ as _+ₙ_, _-_, _≤_, _<_, Fin}
 use native.Mathlib.Nat.{lt-of-not-le}
 use native.Mathlib.Decide.{decLe}
 use native.Mathlib.Omega.{arith}
@@ -18,10 +18,10 @@ use Rattle.algebra.specs.Columns.{Columns, mul-columns, conv-below}
 use Rattle.algebra.specs.Lift.{Factor, factor-unique, factor-exists}
 use Rattle.algebra.specs.Fp.{Prime, Fp, p-pos, Fp-field, rem, rem-val}
 use Rattle.algebra.specs.Bridge.{col, same-rem, rem-zero, rem-one}
-use Rattle.rows.specs.Rows.{mul}
+use Rattle.rows.specs.Rows.{mul, unit, monic}
 use Rattle.rows.proofs.MulLaws.{mul-rem, mul-lt}
-use Rattle.pair.specs.Pair.{unit, monic, IsPair}
-use Rattle.pair.proofs.MonicLaws.{monic-low, monic-top, monic-above, monic-later, by-place}
+use Rattle.pair.specs.Pair.{IsPair}
+use Rattle.rows.proofs.MonicLaws.{monic-low, monic-top, monic-above, monic-later, by-place}
 
 -- Y^d, coefficient by coefficient
 module _ {R : Type 0} (𝓡 : CommRing R) where

@@ -5,32 +5,27 @@
 --   pair-one                   for every f that is not flat and every number of terms there is exactly one pair, as words
 --   pair-test                  PairWords and pairTest are one
 -- Assumes nothing.
-use Prim.Native.Nat.{ℕ, zero, suc, _+_, _-_, _*_, _/_, _%_, _≤_, _<_, zero-le}
-use native.Mathlib.Nat.{add-mul, add-zero, mod-lt, div-add-mod', div-lt-iff-lt-mul, lt-of-not-le, zero-mul}
-use native.Mathlib.Decide.{decLe}
+use Prim.Native.Nat.{ℕ, zero, _+_, _-_, _*_, _≤_, _<_, zero-le}
+use native.Mathlib.Nat.{add-mul, add-zero}
 use native.Mathlib.Omega.{arith}
-use mathlib.Core.Path.{_≡_, refl, sym, _∙_, ap, ap₂, subst}
+use mathlib.Core.Path.{_≡_, refl, sym, _∙_, ap, subst}
 use mathlib.Core.Logic.{_≢_, _↔_, ⊎-elim}
-use mathlib.Core.Bool.{Bool, true, false, not}
+use mathlib.Core.Bool.{true, not}
 use mathlib.Core.List.{List}
-use borrow.Author.Tests.{eq-eqb, ne-eqb, eqb-true, eqb-false, not-true, not-false, lt-ltb, le-ltb, ltb-true}
+use borrow.Author.Tests.{ne-eqb, eqb-true, eqb-false, not-true, not-false, lt-ltb, le-ltb, ltb-true}
 use lib.Dec.{eqb, ltb}
 use lib.ListN.{length, take, drop}
 use lib.Seq.{ext-getD, getD-take, getD-drop, length-take-le}
 use Rattle.algebra.specs.Fp.{Prime, p-pos}
-use Rattle.numbers.specs.Words.{word, choose, firstWhere, AllBelow, allTo, all}
+use Rattle.numbers.specs.Words.{word, choose, AllBelow}
 use Rattle.numbers.proofs.WordsLaws.{lt-or-ge, first-before, first-found}
 use Rattle.numbers.proofs.TestsLaws.{all-at, all-of, _&_, none-left, allTo-at, at-allTo, square}
-use Rattle.rows.specs.Rows.{rowsOf, table, mul}
-use Rattle.rows.proofs.RowsLaws.{rows-below, rows-past, rows-bound, row-fits, length-table, word-table}
+use Rattle.rows.specs.Rows.{table, mul, monic}
+use Rattle.rows.proofs.RowsLaws.{rows-below, rows-past, rows-bound, length-table, word-table, by-row}
 use Rattle.rows.proofs.MulLaws.{mul-ext}
-use Rattle.pair.specs.Pair.{monic, orderOf, order, given, lowRows, highRows, IsPair, PairWords, rowsBelow, productTest, pairTest}
-use Rattle.pair.proofs.MonicLaws.{monic-ext}
+use Rattle.pair.specs.Pair.{orderOf, order, given, lowRows, highRows, IsPair, PairWords, rowsBelow, productTest, pairTest}
+use Rattle.rows.proofs.MonicLaws.{monic-ext}
 use Rattle.pair.proofs.PairLaws.{pair-unique, pair-b, pair-c, pair-lt, pair-is}
-
--- every word of so many rows stands in a row and a column
-pub by-row : (rows N : ℕ) (A : ℕ → Type 0) → zero < N → ((j : ℕ) → j < rows → (t : ℕ) → t < N → A (j * N + t)) → (i : ℕ) → i < rows * N → A i
-by-row rows N A pos h i l = subst A (div-add-mod' i N) (h (i / N) (div-lt-iff-lt-mul pos .1 l) (i % N) (mod-lt i pos))
 
 module _ (D N : ℕ) (f : List ℕ) where
   pub order-there : order D N f ≤ D → given D N f (order D N f) 0 ≢ 0

@@ -1,10 +1,10 @@
 -- The pair's words as two parts, which the kernel is lent: the rows below d, and those from d on.
 -- Assumes nothing.
-use mathlib.Core.Path.{_≡_, refl, sym, ap, ap₂, _∙_}
+use mathlib.Core.Path.{_≡_, sym, ap, ap₂, _∙_}
 use mathlib.Core.Logic.{⊎-elim}
-use mathlib.Core.Bool.{Bool, true, false}
+use mathlib.Core.Bool.{true, false}
 use mathlib.Core.List.{List}
-use Prim.Native.Nat.{ℕ, zero, suc, _+_, _-_, _*_, _%_, _≤_, _<_}
+use Prim.Native.Nat.{ℕ, _+_, _-_, _*_, _%_, _≤_, _<_}
 use native.Mathlib.Nat.{add-mul, mul-le-mul, le-refl}
 use native.Mathlib.Omega.{arith}
 use lib.Dec.{eqb}
@@ -12,26 +12,20 @@ use lib.ListN.{length, take, drop, length-drop}
 use lib.Seq.{getD-take, getD-drop, length-take-le}
 use Rattle.numbers.specs.Words.{word, tabulate, allTo, AllBelow}
 use Rattle.numbers.proofs.WordsLaws.{lt-or-ge, tabulate-ext}
-use Rattle.numbers.proofs.TestsLaws.{allTo-false, at-allTo}
-use Rattle.rows.specs.Rows.{rowsOf, mul}
-use Rattle.rows.proofs.RowsLaws.{rows-below, rows-past, row-fits}
+use Rattle.numbers.proofs.TestsLaws.{allTo-false, at-allTo, allTo-ext}
+use Rattle.rows.specs.Rows.{rowsOf, mul, monic}
+use Rattle.rows.proofs.RowsLaws.{rows-below, rows-past, row-fits, by-row}
 use Rattle.rows.proofs.MulLaws.{mul-ext}
-use Rattle.pair.specs.Pair.{monic, given, lowRows, highRows, PairWords, productTest}
-use Rattle.pair.specs.Column.{middleSum}
-use Rattle.pair.proofs.MonicLaws.{monic-ext}
-use Rattle.pair.proofs.SolveLaws.{pass-ext}
-use Rattle.pair.proofs.PairWordsLaws.{by-row}
-use Rattle.pair.proofs.TestLaws.{gatherAt}
+use Rattle.pair.specs.Pair.{given, lowRows, highRows, PairWords, productTest}
+use Rattle.columns.specs.Column.{middleSum}
+use Rattle.rows.proofs.MonicLaws.{monic-ext}
+use Rattle.columns.proofs.SolveLaws.{pass-ext}
+use Rattle.columns.proofs.ColumnLaws.{gatherAt}
 
 -- the words of a pair are below p
 pub pair-below : (p D N : ℕ) (f : List ℕ) (k : ℕ) (s : List ℕ) → 1 ≤ p → 1 ≤ N → PairWords p D N f k s → (i : ℕ) → i < (D + 1) * N → word s i < p
 pair-below p D N f k s pos width h = by-row (D + 1) N (λ i. word s i < p) width (λ j l t g.
     ⊎-elim (λ u. h .reduced j l t u) (λ u. let z = h .rest j l t u g in omega arith) (lt-or-ge t k))
-
-pub allTo-ext : (n : ℕ) (f g : ℕ → Bool) → ((i : ℕ) → i < n → f i ≡ g i) → allTo n f ≡ allTo n g
-unfolding allTo
-allTo-ext zero f g h = refl
-allTo-ext (suc n) f g h = rw (h n (omega arith), allTo-ext n f g (λ i l. h i (omega arith)))
 
 pub seam-fits : (D N d : ℕ) → d ≤ D → d * N ≤ (D + 1) * N
 seam-fits D N d h = mul-le-mul {n₁ = d} {m₁ = N} {n₂ = D + 1} {m₂ = N} (omega arith) (le-refl N)

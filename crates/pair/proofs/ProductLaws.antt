@@ -12,11 +12,10 @@ use lib.Dec.{ltb, eqb}
 use Rattle.algebra.specs.Sums.{sumTo, sumTo-suc, sumTo-front, sumTo-ext, sumTo-zeros, sumTo-add}
 use Rattle.numbers.specs.Words.{choose, AllBelow}
 use Rattle.numbers.proofs.WordsLaws.{lt-or-ge}
-use Rattle.rows.specs.Rows.{rowsOf, mul}
+use Rattle.rows.specs.Rows.{rowsOf, mul, monic}
 use Rattle.rows.specs.Passes.{passSum}
 use Rattle.rows.proofs.RowsLaws.{passTerm, pass-column, rows-past, rows-bound, passes-bound}
-use Rattle.pair.specs.Pair.{monic}
-use Rattle.pair.proofs.MonicLaws.{monic-low, monic-top, monic-above, monic-later, by-place}
+use Rattle.rows.proofs.MonicLaws.{monic-low, monic-top, monic-above, monic-later, by-place}
 
 -- a sum with one summand
 pick-none : (n d : ℕ) (g : ℕ → ℕ) → n ≤ d → sumTo n (λ i. choose (eqb i d) (g i) 0) ≡ 0

@@ -4,29 +4,22 @@ use mathlib.Core.Path.{_≡_, refl, sym, ap, subst, _∙_}
 use mathlib.Core.Logic.{⊎-elim}
 use mathlib.Core.Bool.{Bool, true, false, not, _||_}
 use mathlib.Core.List.{List, [], _∷_}
-use Prim.Native.Nat.{ℕ, zero, suc, _+_, _-_, _*_, _%_, _≤_, _<_, zero-le}
-use native.Mathlib.Nat.{add-zero, zero-add, le-of-suc-le-suc}
+use Prim.Native.Nat.{ℕ, zero, suc, _+_, _-_, _*_, _≤_, _<_, zero-le}
+use native.Mathlib.Nat.{add-zero, zero-add}
 use native.Mathlib.Omega.{arith}
-use borrow.Author.Tests.{lt-ltb, le-ltb, ltb-true, ltb-false, leb-true, eq-eqb, ne-eqb, eqb-false, not-true}
-use lib.Dec.{leb, ltb, eqb}
+use borrow.Author.Tests.{lt-ltb, le-ltb, ltb-true, ltb-false, eq-eqb, ne-eqb, eqb-false, not-true}
+use lib.Dec.{ltb, eqb}
 use lib.ListN.{length, getD, take, drop, length-drop}
 use lib.Seq.{getD-take, getD-drop, length-take-le}
 use Rattle.numbers.specs.Words.{word, choose, firstLarge, outside, allTo, all}
 use Rattle.numbers.specs.Refusals.{Check, judge, check, operationChecks}
 use Rattle.numbers.specs.declared.refusal.Verdict.the-variants.{Pass}
-use Rattle.numbers.proofs.WordsLaws.{lt-or-ge, first-is, none-large, true-false}
+use Rattle.numbers.proofs.WordsLaws.{lt-or-ge, first-is, none-large, true-false, large-there}
 use Rattle.numbers.proofs.TestsLaws.{not-both, allTo-at, allTo-false, at-allTo}
 use Rattle.numbers.proofs.RefusalsLaws.{pass-parts, pass-check, Operation, operation-pass}
 use Rattle.rows.specs.Rows.{rowsOf}
-use Rattle.rows.proofs.RowsLaws.{rows-below}
+use Rattle.rows.proofs.RowsLaws.{rows-below, by-row}
 use Rattle.pair.specs.Pair.{orderOf, order, rowsBelow, productTest, pairTest, firstChecks}
-use Rattle.pair.specs.Column.{middleSum}
-use Rattle.pair.specs.Lifting.{firstOnly}
-use Rattle.pair.proofs.PairWordsLaws.{by-row}
-
--- row j of what `gather` writes
-abbrev pub gatherAt : (p : ℕ) (f low : List ℕ) (m : ℕ) (high : List ℕ) (k n t : ℕ) → ℕ → ℕ
-gatherAt p f low m high k n t j = (word f (j * n + t) + (p - middleSum (rowsOf low n m) (rowsOf high n k) j t % p)) % p
 
 -- the row that is not 0 at X = 0, and below which every row is
 pub order-is : (f : List ℕ) (n rows r : ℕ) → r ≤ rows → ((k : ℕ) → k < r → word f (k * n) ≡ 0) → (r < rows → word f (r * n) ≡ 0 → ⊥)
@@ -38,27 +31,12 @@ order-is f n rows r h zeros there =
     (λ l. ap not (ne-eqb (rowsOf f n rows r 0) 0 (λ e. there (omega arith) (sym (at r (omega arith)) ∙ e))))
     (λ k _ l e. eqb-false (rowsOf f n rows k 0) 0 (not-true _ e) (at k (omega arith) ∙ zeros k l)))
 
--- first, 0, 0, ..
-pub first-only-later : (x t : ℕ) → 1 ≤ t → 0 ≡ firstOnly x t
-first-only-later x zero h = absurd (let z : ⊥ = omega arith in z)
-first-only-later x (suc t) h = refl
-
 -- row j of Y^d · A
 pub leading-none : (j d x : ℕ) → j < d → 0 ≡ choose (ltb j d) 0 x
 leading-none j d x l = rw (lt-ltb j d l)
 
 pub leading-row : (s : List ℕ) (n k j d t : ℕ) → d ≤ j → j < d + k → word s ((j - d) * n + t) ≡ choose (ltb j d) 0 (rowsOf s n k (j - d) t)
 leading-row s n k j d t l h = rw (le-ltb j d l) (sym (rows-below s n k (j - d) t (omega arith)))
-
--- the first large word is large
-head-large : (p x n t : ℕ) (s : List ℕ) (b : Bool) → leb p x ≡ b → (t < n → p ≤ word s t) → choose b 0 (suc t) < suc n → p ≤ word (x ∷ s) (choose b 0 (suc t))
-head-large p x n t s true e h l = leb-true p x e
-head-large p x n t s false e h l = h (le-of-suc-le-suc l)
-
-pub large-there : (p : ℕ) (s : List ℕ) → firstLarge p s < length s → p ≤ word s (firstLarge p s)
-unfolding firstLarge
-large-there p [] h = absurd (let z : ⊥ = omega arith in z)
-large-there p (x ∷ xs) h = head-large p x (length xs) (firstLarge p xs) xs (leb p x) refl (large-there p xs) h
 
 -- the columns from..to − 1 of row j, as `first_large` is lent them
 module _ (q : ℕ) (s : List ℕ) (n j from to : ℕ) (ordered : from ≤ to) (fits : j * n + to ≤ length s) where

@@ -1,3 +1,2 @@
 pub mod Pair
-pub mod Column
 pub mod Lifting

@@ -1,19 +1,15 @@
 -- What the loops of the lift know. No public contract cites these.
---   firstOnly x t           x, 0, 0, ..
 --   startRows f N j t       column 0 of the rows of f, and 0 elsewhere
 --   Lifting p D N f d t s   f is a polynomial of order d, and s holds its pair to t terms
 -- Assumes nothing.
-use Prim.Native.Nat.{ℕ, zero, suc, _+_, _*_, _≤_, _<_}
+use Prim.Native.Nat.{ℕ, _+_, _*_, _≤_, _<_}
 use mathlib.Core.Path.{_≡_}
 use mathlib.Core.List.{List}
 use lib.ListN.{length}
 use Rattle.algebra.specs.Fp.{Prime}
 use Rattle.numbers.specs.Words.{word, AllBelow}
+use Rattle.columns.specs.Column.{firstOnly}
 use Rattle.pair.specs.Pair.{order, PairWords}
-
-abbrev pub firstOnly : ℕ → ℕ → ℕ
-firstOnly x zero = x
-firstOnly x (suc t) = 0
 
 abbrev pub startRows : List ℕ → ℕ → ℕ → ℕ → ℕ
 startRows f N j = firstOnly (word f (j * N))

@@ -1,6 +1,4 @@
 -- The Weierstrass pair, by its conditions, and what the operations on it answer and write.
---   unit t                  the series 1, 0, 0, ..
---   monic d a               Y^d and the rows of a below d
 --   orderOf rows f          the order of f: the least j with row j not 0 at X = 0; `rows` where every row is 0 there
 --   IsPair p D k d f b c    d is the order of f, and P = Y^d + b and A = c, of D − d + 1 rows, are its pair to k terms
 --   PairWords p D N f k s   the words of the pair to k terms: rows 0..d − 1 are b, rows d..D are c, columns from k up are 0
@@ -9,25 +7,16 @@
 --   PairDone                what an accepted call leaves: the pair's words, and past them what was there
 --   Paired, Continued       what `pair` and `pair_continue` answer and leave
 -- Assumes nothing.
-use Prim.Native.Nat.{ℕ, zero, suc, _+_, _-_, _*_, _≤_, _<_}
+use Prim.Native.Nat.{ℕ, _+_, _-_, _*_, _≤_, _<_}
 use mathlib.Core.Path.{_≡_}
 use mathlib.Core.Logic.{_≢_}
-use mathlib.Core.Bool.{Bool, true, false, not, _||_}
+use mathlib.Core.Bool.{Bool, not, _||_}
 use mathlib.Core.List.{List, [], _∷_, _++_}
-use lib.Dec.{leb, ltb, eqb}
+use lib.Dec.{ltb, eqb}
 use lib.ListN.{length, drop}
-use Rattle.numbers.specs.Words.{word, choose, firstWhere, outside, allTo, all}
-use Rattle.numbers.specs.Refusals.{Check, check, judge, Outcome, result, operationChecks}
-use Rattle.numbers.specs.declared.refusal.Verdict.{Verdict}
-use Rattle.numbers.specs.declared.refusal.Verdict.the-variants.{Pass, Refuse}
-use Rattle.rows.specs.Rows.{rowsOf, mul}
-
-abbrev pub unit : ℕ → ℕ
-unit zero = 1
-unit (suc t) = 0
-
-unfoldable pub monic : ℕ → (ℕ → ℕ → ℕ) → ℕ → ℕ → ℕ
-monic d a j t = choose (ltb j d) (a j t) (choose (eqb j d) (unit t) 0)
+use Rattle.numbers.specs.Words.{word, firstWhere, outside, allTo, all}
+use Rattle.numbers.specs.Refusals.{Check, check, judge, Outcome, result, operationChecks, Leaves}
+use Rattle.rows.specs.Rows.{rowsOf, mul, monic}
 
 unfoldable pub orderOf : ℕ → (ℕ → ℕ → ℕ) → ℕ
 orderOf rows f = firstWhere (λ j. not (eqb (f j 0) 0)) 0 rows
@@ -99,11 +88,6 @@ pub record PairDone (p D N : ℕ) (f : List ℕ) (w : ℕ) (old new : List ℕ) 
   pub long : length new ≡ length old
   pub words : PairWords p D N f w new
   pub rest : drop ((D + 1) * N) new ≡ drop ((D + 1) * N) old
-
--- a refusal leaves every word
-abbrev pub Leaves : Verdict → Type 0 → List ℕ → List ℕ → Type 0
-Leaves Pass Done old new = Done
-Leaves (Refuse r) Done old new = new ≡ old
 
 pub record Paired (p D N : ℕ) (f : List ℕ) (w : ℕ) (old : List ℕ) (answer : Outcome ℕ) (new : List ℕ) : Type 0 where
   pub answers : answer ≡ result (judge (pairChecks p D N f w (length old))) (order D N f)

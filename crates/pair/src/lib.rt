@@ -8,16 +8,13 @@ use numbers::refusal::refuse;
 ghost use mathlib.Core.Path.{_≡_};
 ghost use Prim.Native.Nat.{ℕ, _+_, _-_, _*_, _%_, _≤_, _<_};
 ghost use lib.ListN.{length};
-ghost use Rattle.algebra.specs.Fp.{Prime};
 ghost use Rattle.numbers.specs.Refusals.{judge, outcome};
 ghost use Rattle.numbers.specs.Words.{word, allTo, tabulate, over, choose, AllBelow};
 ghost use lib.Dec.{ltb, eqb};
-ghost use Rattle.rows.specs.Rows.{rowsOf, table, mul};
-ghost use Rattle.pair.specs.Pair.{monic, orderOf, order, given, lowRows, highRows, firstChecks, pairChecks, continueChecks, rowsBelow, productTest, pairTest, PairDone, Paired, Continued};
-ghost use Rattle.pair.specs.Column.{middleSum, Prepared};
+ghost use Rattle.rows.specs.Rows.{rowsOf, table, mul, monic};
+ghost use Rattle.pair.specs.Pair.{orderOf, order, given, lowRows, highRows, firstChecks, pairChecks, continueChecks, rowsBelow, productTest, pairTest, PairDone, Paired, Continued};
+ghost use Rattle.columns.specs.Column.{middleSum, Prepared};
 ghost use Rattle.pair.specs.Lifting.{startRows, Lifting};
-
-pub mod kernel; // columns of a split, for callers that have judged
 
 // The order of f: the first row that is not 0 at X = 0, or the number of rows.
 fn order_of(f: &[u32], n: usize, rows: usize) -> usize
@@ -58,7 +55,7 @@ fn start(f: &[u32], n: usize, rows: usize, out: &mut [u32])
     while j < rows {
         let a = j * n;
         let e = a + n;
-        kernel::start_row(f[a], &mut out[a..e]);
+        columns::start_row(f[a], &mut out[a..e]);
         j += 1;
     }
 }
@@ -81,7 +78,7 @@ fn gather_column(
     let rows = deg + 1;
     let seam = d * n;
     let end = rows * n;
-    kernel::gather(p, f, &s[..seam], d, &s[seam..end], rows - d, n, t, column);
+    columns::gather(p, f, &s[..seam], d, &s[seam..end], rows - d, n, t, column);
 }
 
 // Column t of the pair, from the columns before it. `inverse` and a come from A at X = 0.
@@ -102,8 +99,8 @@ fn lift_column(
     let rows = deg + 1;
     let mut column = [0u32; 33];
     gather_column(p, f, out, deg, n, d, t, &mut column[..rows]);
-    kernel::solve(p, 0, inverse, a, d, &mut column[..rows]);
-    kernel::store_column(&column[..rows], n, t, out);
+    columns::solve(p, 0, inverse, a, d, &mut column[..rows]);
+    columns::store_column(&column[..rows], n, t, out);
 }
 
 // The columns from..to − 1.
@@ -114,8 +111,8 @@ fn lift(p: u32, f: &[u32], deg: usize, n: usize, d: usize, from: usize, to: usiz
     let k = deg + 1 - d;
     let seam = d * n;
     let mut a = [0u32; 33];
-    kernel::load_column(&f[seam..], n, 0, &mut a[..k]);
-    let inverse = kernel::prepare(p, 0, &mut a[..k]);
+    columns::load_column(&f[seam..], n, 0, &mut a[..k]);
+    let inverse = columns::prepare(p, 0, &mut a[..k]);
     let mut t = from;
     while t < to {
         lift_column(p, inverse, &a[1..k], f, deg, n, d, t, out);

@@ -2,3 +2,4 @@ pub mod RowsLaws
 pub mod CheckLaws
 pub mod MulLaws
 pub mod ShiftLaws
+pub mod MonicLaws

@@ -3,8 +3,8 @@
 use mathlib.Core.Path.{_≡_, refl, sym, ap, ap₂, subst, _∙_}
 use mathlib.Core.Logic.{⊎-elim}
 use mathlib.Core.List.{List, [], _∷_, _++_}
-use Prim.Native.Nat.{ℕ, zero, suc, _+_, _-_, _*_, _%_, _≤_, _<_}
-use native.Mathlib.Nat.{eq-or-lt-of-le, mod-lt, mul-le-mul, mul-zero, zero-mul, zero-mod, add-assoc}
+use Prim.Native.Nat.{ℕ, zero, suc, _+_, _-_, _*_, _%_, _≤_, _<_, _/_}
+use native.Mathlib.Nat.{eq-or-lt-of-le, mod-lt, mul-le-mul, mul-zero, zero-mul, zero-mod, add-assoc, div-add-mod', div-lt-iff-lt-mul}
 use native.Mathlib.Numerals.{add-one}
 use native.Mathlib.Omega.{arith}
 use borrow.Author.Tests.{lt-ltb, le-ltb}
@@ -325,7 +325,7 @@ module _ (rows j : ℕ) (ws : List ℕ) (h : j ≤ rows) (l : rows ≤ length ws
       let r : (rows - j) * n ≤ length (from f (j * n)) = omega (arith, length-from f (j * n)) in
       rw length-rest r
 
--- row j of the shift, as `shift_row` gives it
+-- row j of the shift, as `combine` gives it
 pub shift-row-is : (p c : ℕ) (f : List ℕ) (rows n j : ℕ) (ws ys : List ℕ) → j ≤ rows → rows ≤ length ws → Weights p c rows j ws
     → ys ≡ tabulate n (λ t. weightSum (from f (j * n)) n (take (rows - j) (drop j ws)) t % p) → ys ≡ tabulate n (shifted p rows c (rowsOf f n rows) j)
 shift-row-is p c f rows n j ws ys h l w e = e ∙ tabulate-ext n _ _ (λ t _. weight-row p c f rows n j t ws h l w)
@@ -333,3 +333,7 @@ shift-row-is p c f rows n j ws ys h l w e = e ∙ tabulate-ext n _ _ (λ t _. we
 -- the array before its first words are written
 abbrev pub zeros : List ℕ
 zeros = 0 ∷ 0 ∷ 0 ∷ 0 ∷ 0 ∷ 0 ∷ 0 ∷ 0 ∷ 0 ∷ 0 ∷ 0 ∷ 0 ∷ 0 ∷ 0 ∷ 0 ∷ 0 ∷ 0 ∷ 0 ∷ 0 ∷ 0 ∷ 0 ∷ 0 ∷ 0 ∷ 0 ∷ 0 ∷ 0 ∷ 0 ∷ 0 ∷ 0 ∷ 0 ∷ 0 ∷ 0 ∷ 0 ∷ []
+
+-- every word of so many rows stands in a row and a column
+pub by-row : (rows N : ℕ) (A : ℕ → Type 0) → zero < N → ((j : ℕ) → j < rows → (t : ℕ) → t < N → A (j * N + t)) → (i : ℕ) → i < rows * N → A i
+by-row rows N A pos h i l = subst A (div-add-mod' i N) (h (i / N) (div-lt-iff-lt-mul pos .1 l) (i % N) (mod-lt i pos))

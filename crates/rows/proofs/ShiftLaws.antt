@@ -10,7 +10,7 @@ use native.Mathlib.Omega.{arith}
 use lib.ListN.{length}
 use Rattle.algebra.specs.Sums.{sumTo-zero, sumTo-ext, sumTo-zeros}
 use Rattle.algebra.specs.Ring.{CommRing, neg-neg, pow-zero, pow-suc}
-use Rattle.algebra.specs.Series.{Series, sum, sum-ext, add-at, zero-at, one-at}
+use Rattle.algebra.specs.Series.{Series, sum-ext, add-at, zero-at, one-at}
 use Rattle.algebra.specs.Poly.{lin, linPow, lin-mul-zero, lin-mul-suc, Below}
 use Rattle.algebra.specs.Columns.{Columns}
 use Rattle.algebra.specs.Shift.{shift, shift-zero, shift-sum, shift-add, shift-inverse, shiftColumns, shift-columns-mul-at}

@@ -9,11 +9,13 @@
 --   linePower p c m j          the coefficient of Y^j of (Y + c)^m
 --   shifted p rows c f j t     the coefficient of Y^j X^t of f(Y + c): the sum over i of row i of f times (Y + c)^i
 --   rowShift ..                the words of the shift
+--   unit t                     the series 1, 0, 0, ..
+--   monic d a                  Y^d and the rows of a below d
 -- Sums and differences are those of `series`, word by word.
 -- Assumes nothing.
 use Prim.Native.Nat.{ℕ, zero, suc, _+_, _-_, _*_, _%_}
 use mathlib.Core.List.{List, [], _∷_, _++_}
-use lib.Dec.{leb, ltb}
+use lib.Dec.{leb, ltb, eqb}
 use Rattle.algebra.specs.Sums.{sumTo}
 use Rattle.numbers.specs.Words.{word, choose, tabulate}
 use Rattle.numbers.specs.Refusals.{Check, check, inputChecks, operationChecks}
@@ -56,3 +58,10 @@ shifted p rows c f j t = sumTo rows (λ i. f i t * linePower p c i j) % p
 
 unfoldable pub rowShift : (p D N : ℕ) (f : List ℕ) (c : ℕ) → List ℕ
 rowShift p D N f c = table (D + 1) N (shifted p (D + 1) c (rowsOf f N (D + 1)))
+
+abbrev pub unit : ℕ → ℕ
+unit zero = 1
+unit (suc t) = 0
+
+unfoldable pub monic : ℕ → (ℕ → ℕ → ℕ) → ℕ → ℕ → ℕ
+monic d a j t = choose (ltb j d) (a j t) (choose (eqb j d) (unit t) 0)

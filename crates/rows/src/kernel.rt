@@ -2,7 +2,7 @@
 // are for the crates of this repository. All are proved for every modulus below 2^24.
 use series::kernel::dot;
 ghost use mathlib.Core.Path.{_≡_};
-ghost use Prim.Native.Nat.{ℕ, _+_, _-_, _*_, _%_, _≤_, _<_};
+ghost use Prim.Native.Nat.{_+_, _-_, _*_, _%_, _≤_, _<_};
 ghost use lib.ListN.{length};
 ghost use Rattle.numbers.specs.Words.{word, over, tabulate, AllBelow};
 ghost use Rattle.rows.specs.Rows.{rowsOf, table, mul, linePower, shifted};
@@ -139,8 +139,8 @@ fn weighted_sum(f: &[u32], n: usize, weights: &[u32], t: usize) -> u64
     sum
 }
 
-// A row of the shift: the rows of f, each times its weight.
-fn shift_row(p: u32, f: &[u32], n: usize, weights: &[u32], out: &mut [u32])
+// The rows of f, each times its weight, added up.
+pub fn combine(p: u32, f: &[u32], n: usize, weights: &[u32], out: &mut [u32])
     requires { ⌜ (1 ≤ p) × (p < 16777216) × (length (now weights) * n ≤ length (now f)) × (length (now weights) ≤ 33) × (n ≤ 256) × (length (now out) ≡ n)
         × AllBelow p (now f) × AllBelow p (now weights) ⌝ }
     ensures { λ _. ⌜ now (out .exit) ≡ tabulate n (λ t. weightSum (now (f .entry)) n (now (weights .entry)) t % p) ⌝ }
@@ -165,7 +165,7 @@ pub fn shift(p: u32, c: u32, f: &[u32], rows: usize, n: usize, out: &mut [u32])
     while j < rows {
         let a = j * n;
         let e = a + n;
-        shift_row(p, &f[a..], n, &weights[j..rows], &mut out[a..e]);
+        combine(p, &f[a..], n, &weights[j..rows], &mut out[a..e]);
         next_weights(p, c, &mut weights[..rows]);
         j += 1;
     }

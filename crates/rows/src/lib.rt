@@ -6,7 +6,7 @@ use numbers::refusal::Answer;
 use numbers::refusal::Refusal;
 use numbers::refusal::Verdict;
 ghost use mathlib.Core.Path.{_≡_};
-ghost use Prim.Native.Nat.{ℕ, _+_, _*_};
+ghost use Prim.Native.Nat.{_+_, _*_};
 ghost use lib.ListN.{length};
 ghost use Rattle.numbers.specs.Words.{over};
 ghost use Rattle.numbers.specs.Refusals.{judge, outcome, result, written};

@@ -1,5 +1,5 @@
 -- The content of a sheet, built from the rows of the factors; with it, a sheet for every k up to N.
---   built ..      the content whose factors have the rows a: rows block after block, 0 from column k on, and the cofactors as products
+--   built ..      the content whose factors have the rows a: rows block after block, 0 from column k on
 --   Ready ..      what open needs of p, D, N, the polynomial, the roots and the powers
 --   built-good    with rows that are the factors to k terms the content is good
 --   solved-good   there is good content for every k from 1 to N
@@ -17,16 +17,14 @@ use Rattle.algebra.specs.Fp.{Prime}
 use Rattle.numbers.specs.Words.{choose, firstWhere}
 use Rattle.numbers.specs.Refusals.{largestModulus}
 use Rattle.numbers.proofs.WordsLaws.{first-is}
-use Rattle.rows.specs.Rows.{linePower}
+use Rattle.rows.specs.Rows.{linePower, unit, monic}
 use Rattle.rows.proofs.RowsLaws.{line-lt, line-zero}
-use Rattle.pair.specs.Pair.{unit, monic}
-use Rattle.pair.proofs.MonicLaws.{monic-low, monic-top, monic-above, by-place}
-use Rattle.sheet.specs.Factors.{rootPower, flat, product, IsFactors}
-use Rattle.sheet.specs.Layout.{codegree}
-use Rattle.sheet.proofs.FactorsLaws.{product-ext, factors-ext}
+use Rattle.rows.proofs.MonicLaws.{monic-low, monic-top, monic-above, by-place}
+use Rattle.split.specs.Factors.{rootPower, flat, product, IsFactors}
+use Rattle.split.proofs.FactorsLaws.{product-ext, factors-ext}
 use Rattle.sheet.proofs.ExistsLaws.{Splits, factors-splits, solution, solution-lt, solution-is}
 use Rattle.sheet.proofs.ContentLaws.{Content}
-use Rattle.sheet.proofs.SheetsLaws.{factorOf, after, after-ext, Good}
+use Rattle.sheet.proofs.SheetsLaws.{factorOf, Good}
 
 -- the block of r blocks, with m 0, m 1, .. rows, that row q stands in
 unfoldable pub blockOf : ℕ → (ℕ → ℕ) → ℕ → ℕ
@@ -51,7 +49,6 @@ built p D N k r root power f a = record {
   power = power;
   f = f;
   factors = cut k (stacked r power a);
-  cofactors = cut k (stacked (r - 2) (codegree D power) (after p r power a));
 }
 
 block-is : (r : ℕ) (m : ℕ → ℕ) (i j : ℕ) → i < r → j < m i → blockOf r m (sumTo i m + j) ≡ i
@@ -117,11 +114,6 @@ module _ (p D N r : ℕ) (root power : ℕ → ℕ) (f : ℕ → ℕ → ℕ) (h
       factors = factors-ext p D k r f f root root power power a (factorOf (built p D N k r root power f a)) low (λ j l t g. refl) (λ i l. refl) (λ i l. refl) row-is is;
       factors-reduced = λ j l t g. rw (cut-low k (stacked r power a) j t g) (lt _ _ t);
       factors-rest = λ j l t g v. cut-high k (stacked r power a) j t g;
-      cofactors = λ i l j g t v.
-          cut-low k (stacked (r - 2) (codegree D power) (after p r power a)) (sumTo i (codegree D power) + j) t v
-          ∙ stacked-is (r - 2) (codegree D power) (after p r power a) i j t l g
-          ∙ sym (after-ext p k r power power (factorOf (built p D N k r root power f a)) a (λ i l. refl) row-is i j t v);
-      cofactors-rest = λ j l t g v. cut-high k (stacked (r - 2) (codegree D power) (after p r power a)) j t g;
     }
 
   -- the content with k terms of the solution

@@ -1,23 +1,22 @@
 -- A sheet's words, written out from what it holds, and the words read back.
---   Content          what a sheet holds: the header's numbers, the roots and powers, and the rows of f, of the factors and of the cofactors
+--   Content          what a sheet holds: the header's numbers, the roots and powers, and the rows of f and of the factors
 --   contentOf s      what the slice s holds, by the readers of the layout
 --   size c           T
 --   sheetWords c     the words of the sheet that holds c
---   word-header, word-root, word-power, word-polynomial, word-factors, word-cofactors   what stands where
+--   word-header, word-root, word-power, word-polynomial, word-factors   what stands where
 --   length-sheet     it has T words
 --   words-same       contents that agree have the same words
 -- Assumes nothing.
-use Prim.Native.Nat.{ℕ, zero, suc, _+_, _-_, _*_, _≤_, _<_}
+use Prim.Native.Nat.{ℕ, zero, suc, _+_, _*_, _≤_, _<_}
 use native.Mathlib.Omega.{arith}
 use mathlib.Core.Path.{_≡_, refl, _∙_, ap, ap₂}
 use mathlib.Core.List.{List, [], _∷_, _++_}
 use lib.ListN.{length, length-append, List·getD-append}
 use lib.Seq.{getD-append-add}
-use Rattle.algebra.specs.Sums.{sumTo, sumTo-ext}
 use Rattle.numbers.specs.Words.{word}
 use Rattle.rows.specs.Rows.{table}
 use Rattle.rows.proofs.RowsLaws.{length-table, word-table, table-ext}
-use Rattle.sheet.specs.Layout.{modulus, degree, width, terms, count, rootsFrom, polynomialFrom, factorsFrom, cofactorsFrom, codegree, total, root, power, polynomial, factorRows, cofactorRows}
+use Rattle.sheet.specs.Layout.{modulus, degree, width, terms, count, rootsFrom, polynomialFrom, factorsFrom, total, root, power, polynomial, factorRows}
 use Rattle.sheet.proofs.RegionsLaws.{in-rows}
 
 pub record Content : Type 0 where
@@ -30,7 +29,6 @@ pub record Content : Type 0 where
   pub power : ℕ → ℕ
   pub f : ℕ → ℕ → ℕ
   pub factors : ℕ → ℕ → ℕ
-  pub cofactors : ℕ → ℕ → ℕ
 
 abbrev pub contentOf : List ℕ → Content
 contentOf s = record {
@@ -43,19 +41,14 @@ contentOf s = record {
   power = power s;
   f = polynomial s;
   factors = factorRows s;
-  cofactors = cofactorRows s;
 }
 
 abbrev pub size : Content → ℕ
-size c = total (c .D) (c .N) (c .r) (c .power)
-
--- the number of the cofactors' rows
-abbrev pub corows : Content → ℕ
-corows c = sumTo (c .r - 2) (codegree (c .D) (c .power))
+size c = total (c .D) (c .N) (c .r)
 
 abbrev pub headerWords : Content → List ℕ
 headerWords c =
-    c .p ∷ c .D ∷ c .N ∷ c .k ∷ c .r ∷ rootsFrom ∷ polynomialFrom (c .r) ∷ factorsFrom (c .D) (c .N) (c .r) ∷ cofactorsFrom (c .D) (c .N) (c .r) ∷ size c ∷ []
+    c .p ∷ c .D ∷ c .N ∷ c .k ∷ c .r ∷ rootsFrom ∷ polynomialFrom (c .r) ∷ factorsFrom (c .D) (c .N) (c .r) ∷ size c ∷ size c ∷ []
 
 -- root, then power
 abbrev pub entry : Content → ℕ → ℕ → ℕ
@@ -64,7 +57,7 @@ entry c i (suc t) = c .power i
 
 unfoldable pub sheetWords : Content → List ℕ
 sheetWords c =
-    headerWords c ++ (table (c .r) 2 (entry c) ++ (table (c .D + 1) (c .N) (c .f) ++ (table (c .D) (c .N) (c .factors) ++ table (corows c) (c .N) (c .cofactors))))
+    headerWords c ++ (table (c .r) 2 (entry c) ++ (table (c .D + 1) (c .N) (c .f) ++ table (c .D) (c .N) (c .factors)))
 
 -- past the first list
 skip : (xs ys : List ℕ) (n i k : ℕ) → length xs ≡ n → k ≡ n + i → word (xs ++ ys) k ≡ word ys i
@@ -80,20 +73,17 @@ module _ (c : Content) where
   abbrev F : List ℕ
   F = table (c .D) (c .N) (c .factors)
 
-  abbrev G : List ℕ
-  G = table (corows c) (c .N) (c .cofactors)
-
   pub word-header : (i : ℕ) → i < 10 → word (sheetWords c) i ≡ word (headerWords c) i
   unfolding sheetWords
-  word-header i l = List·getD-append (headerWords c) (E ++ (P ++ (F ++ G))) 0 i l
+  word-header i l = List·getD-append (headerWords c) (E ++ (P ++ F)) 0 i l
 
-  past-header : (n m : ℕ) → m ≡ 10 + n → word (sheetWords c) m ≡ word (E ++ (P ++ (F ++ G))) n
+  past-header : (n m : ℕ) → m ≡ 10 + n → word (sheetWords c) m ≡ word (E ++ (P ++ F)) n
   unfolding sheetWords
-  past-header n m e = skip (headerWords c) (E ++ (P ++ (F ++ G))) 10 n m refl e
+  past-header n m e = skip (headerWords c) (E ++ (P ++ F)) 10 n m refl e
 
   entry-at : (i t m : ℕ) → i < c .r → t < 2 → m ≡ 10 + (i * 2 + t) → word (sheetWords c) m ≡ entry c i t
   entry-at i t m l g e =
-      past-header (i * 2 + t) m e ∙ List·getD-append E (P ++ (F ++ G)) 0 (i * 2 + t) (omega (arith, length-table (c .r) 2 (entry c), in-rows (c .r) 2 i t l g))
+      past-header (i * 2 + t) m e ∙ List·getD-append E (P ++ F) 0 (i * 2 + t) (omega (arith, length-table (c .r) 2 (entry c), in-rows (c .r) 2 i t l g))
       ∙ word-table (c .r) 2 (entry c) i t l g
 
   pub word-root : (i : ℕ) → i < c .r → word (sheetWords c) (rootsFrom + 2 * i) ≡ c .root i
@@ -102,31 +92,24 @@ module _ (c : Content) where
   pub word-power : (i : ℕ) → i < c .r → word (sheetWords c) (rootsFrom + 2 * i + 1) ≡ c .power i
   word-power i l = entry-at i 1 _ l (omega arith) (omega arith)
 
-  past-entries : (n m : ℕ) → m ≡ polynomialFrom (c .r) + n → word (sheetWords c) m ≡ word (P ++ (F ++ G)) n
+  past-entries : (n m : ℕ) → m ≡ polynomialFrom (c .r) + n → word (sheetWords c) m ≡ word (P ++ F) n
   past-entries n m e =
-      past-header (c .r * 2 + n) m (omega arith) ∙ skip E (P ++ (F ++ G)) (c .r * 2) n (c .r * 2 + n) (length-table (c .r) 2 (entry c)) refl
+      past-header (c .r * 2 + n) m (omega arith) ∙ skip E (P ++ F) (c .r * 2) n (c .r * 2 + n) (length-table (c .r) 2 (entry c)) refl
 
   pub word-polynomial : (j t : ℕ) → j ≤ c .D → t < c .N → word (sheetWords c) (polynomialFrom (c .r) + j * c .N + t) ≡ c .f j t
   word-polynomial j t l g =
       past-entries (j * c .N + t) _ (omega arith)
-      ∙ List·getD-append P (F ++ G) 0 (j * c .N + t) (omega (arith, length-table (c .D + 1) (c .N) (c .f), in-rows (c .D + 1) (c .N) j t (omega arith) g))
+      ∙ List·getD-append P F 0 (j * c .N + t) (omega (arith, length-table (c .D + 1) (c .N) (c .f), in-rows (c .D + 1) (c .N) j t (omega arith) g))
       ∙ word-table (c .D + 1) (c .N) (c .f) j t (omega arith) g
 
-  past-polynomial : (n m : ℕ) → m ≡ factorsFrom (c .D) (c .N) (c .r) + n → word (sheetWords c) m ≡ word (F ++ G) n
+  past-polynomial : (n m : ℕ) → m ≡ factorsFrom (c .D) (c .N) (c .r) + n → word (sheetWords c) m ≡ word F n
   past-polynomial n m e =
-      past-entries ((c .D + 1) * c .N + n) m (omega arith) ∙ skip P (F ++ G) ((c .D + 1) * c .N) n ((c .D + 1) * c .N + n) (length-table (c .D + 1) (c .N) (c .f)) refl
+      past-entries ((c .D + 1) * c .N + n) m (omega arith) ∙ skip P F ((c .D + 1) * c .N) n ((c .D + 1) * c .N + n) (length-table (c .D + 1) (c .N) (c .f)) refl
 
   pub word-factors : (j t : ℕ) → j < c .D → t < c .N → word (sheetWords c) (factorsFrom (c .D) (c .N) (c .r) + j * c .N + t) ≡ c .factors j t
   word-factors j t l g =
       past-polynomial (j * c .N + t) _ (omega arith)
-      ∙ List·getD-append F G 0 (j * c .N + t) (omega (arith, length-table (c .D) (c .N) (c .factors), in-rows (c .D) (c .N) j t l g))
       ∙ word-table (c .D) (c .N) (c .factors) j t l g
-
-  pub word-cofactors : (j t : ℕ) → j < corows c → t < c .N → word (sheetWords c) (cofactorsFrom (c .D) (c .N) (c .r) + j * c .N + t) ≡ c .cofactors j t
-  word-cofactors j t l g =
-      past-polynomial (c .D * c .N + (j * c .N + t)) _ (omega arith)
-      ∙ skip F G (c .D * c .N) (j * c .N + t) (c .D * c .N + (j * c .N + t)) (length-table (c .D) (c .N) (c .factors)) refl
-      ∙ word-table (corows c) (c .N) (c .cofactors) j t l g
 
   pub length-sheet : length (sheetWords c) ≡ size c
   unfolding sheetWords
@@ -143,25 +126,10 @@ pub record SameContent (c c′ : Content) : Type 0 where
   pub powers : (i : ℕ) → i < c .r → c .power i ≡ c′ .power i
   pub polynomial : (j t : ℕ) → j ≤ c .D → t < c .N → c .f j t ≡ c′ .f j t
   pub factors : (j t : ℕ) → j < c .D → t < c .N → c .factors j t ≡ c′ .factors j t
-  pub cofactors : (j t : ℕ) → j < corows c → t < c .N → c .cofactors j t ≡ c′ .cofactors j t
-
--- the numbers that follow from D, N, r and the powers
-pub codegree-ext : (D D′ : ℕ) (power power′ : ℕ → ℕ) (i : ℕ) → D ≡ D′ → ((j : ℕ) → j < suc i → power j ≡ power′ j) → codegree D power i ≡ codegree D′ power′ i
-codegree-ext D D′ power power′ i e h = ap₂ (λ x y. x - y) e (sumTo-ext (suc i) h)
-
-pub corows-ext : (D D′ n : ℕ) (power power′ : ℕ → ℕ) → D ≡ D′ → ((i : ℕ) → i < n → power i ≡ power′ i) → sumTo n (codegree D power) ≡ sumTo n (codegree D′ power′)
-corows-ext D D′ n power power′ e h = sumTo-ext n (λ i l. codegree-ext D D′ power power′ i e (λ j g. h j (omega arith)))
-
-pub total-ext : (D N r : ℕ) (power power′ : ℕ → ℕ) → ((i : ℕ) → i < r → power i ≡ power′ i) → total D N r power ≡ total D N r power′
-total-ext D N r power power′ h = ap (λ n. cofactorsFrom D N r + n * N) (corows-ext D D (r - 2) power power′ refl (λ i l. h i (omega arith)))
 
 module _ (c c′ : Content) (e : SameContent c c′) where
-  pub same-corows : corows c ≡ corows c′
-  same-corows =
-      corows-ext (c .D) (c′ .D) (c .r - 2) (c .power) (c′ .power) (e .degree) (λ i l. e .powers i (omega arith)) ∙ ap (λ r. sumTo (r - 2) (codegree (c′ .D) (c′ .power))) (e .count)
-
   pub same-size : size c ≡ size c′
-  same-size = let q = same-corows in cc (e .degree, e .width, e .count)
+  same-size = cc (e .degree, e .width, e .count)
 
   same-header : headerWords c ≡ headerWords c′
   same-header = let q = same-size in cc (e .modulus, e .degree, e .width, e .terms, e .count)
@@ -178,4 +146,4 @@ module _ (c c′ : Content) (e : SameContent c c′) where
   words-same =
       ap₂ _++_ same-header (ap₂ _++_ (table-ext (c .r) 2 (entry c) (entry c′) same-entry ∙ ap (λ r. table r 2 (entry c′)) (e .count))
       (ap₂ _++_ (same-table (c .D + 1) (c′ .D + 1) (c .f) (c′ .f) (ap (λ D. D + 1) (e .degree)) (λ j t l g. e .polynomial j t (omega arith) g))
-      (ap₂ _++_ (same-table (c .D) (c′ .D) (c .factors) (c′ .factors) (e .degree) (e .factors)) (same-table (corows c) (corows c′) (c .cofactors) (c′ .cofactors) same-corows (e .cofactors)))))
+      (same-table (c .D) (c′ .D) (c .factors) (c′ .factors) (e .degree) (e .factors))))

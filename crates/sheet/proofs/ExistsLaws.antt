@@ -20,11 +20,11 @@ use Rattle.algebra.specs.Chain.{Monic, Lifted, at-zero, at-zero-below, chain-ex
 use Rattle.algebra.specs.Fp.{Prime, Fp, p-pos, Fp-field, rem, rem-val, val-unique}
 use Rattle.algebra.specs.Bridge.{col, same-rem, rem-zero, rem-one}
 use Rattle.rows.proofs.RowsLaws.{line-lt}
-use Rattle.pair.specs.Pair.{unit, monic}
-use Rattle.pair.proofs.MonicLaws.{monic-low, monic-top, monic-above, by-place}
-use Rattle.pair.proofs.SolveLaws.{line-power}
-use Rattle.sheet.specs.Factors.{rootPower, flat, product, split, IsFactors}
-use Rattle.sheet.proofs.FactorsLaws.{product-rem, product-lt, monic-rem, factors-unique, rootsOf, key, roots-rising}
+use Rattle.rows.specs.Rows.{unit, monic}
+use Rattle.rows.proofs.MonicLaws.{monic-low, monic-top, monic-above, by-place}
+use Rattle.columns.proofs.SolveLaws.{line-power}
+use Rattle.split.specs.Factors.{rootPower, flat, product, split, IsFactors}
+use Rattle.split.proofs.FactorsLaws.{product-rem, product-lt, monic-rem, factors-unique, rootsOf, key, roots-rising}
 
 pub record Splits (p D r : ℕ) (f : ℕ → ℕ → ℕ) (root power : ℕ → ℕ) : Type 0 where
   pub rising : (i : ℕ) → suc i < r → root i < root (suc i)

@@ -1,20 +1,16 @@
 -- What a sheet holds, of two slices.
 --   holds-by        what a sheet holds is read before the factors, but for the terms
 --   holds-ext       slices with the same first T words hold the same
---   unsound         a slice that fails the test is not sound
---   sound-long      a sound sheet has its header
 -- Assumes nothing.
 use Prim.Native.Nat.{ℕ, _+_, _*_, _≤_, _<_}
 use native.Mathlib.Omega.{arith}
-use mathlib.Core.Path.{_≡_, sym, _∙_, ap₂}
+use mathlib.Core.Path.{_≡_, _∙_, ap₂}
 use mathlib.Core.Logic.{_≢_}
-use mathlib.Core.Bool.{true, false}
 use mathlib.Core.List.{List}
 use lib.ListN.{length}
 use Rattle.numbers.specs.Words.{word}
 use Rattle.sheet.specs.Layout.{degree, width, terms, count, factorsFrom, end}
-use Rattle.sheet.specs.Sheet.{Sound, soundTest, Given, Holds}
-use Rattle.sheet.proofs.SoundTestLaws.{sound-test}
+use Rattle.sheet.specs.Sheet.{Sound, Given, Holds}
 use Rattle.sheet.proofs.RegionsLaws.{in-rows}
 use Rattle.sheet.proofs.SheetsLaws.{sound-ext}
 
@@ -39,9 +35,3 @@ holds-by g k w u s h sound e same =
 
 pub holds-ext : (g : Given) (k : ℕ) (u s : List ℕ) → Holds g k u → end u ≤ length s → ((i : ℕ) → i < end u → word s i ≡ word u i) → Holds g k s
 holds-ext g k u s h fits same = holds-by g k k u s h (sound-ext u (h .sound) s same fits) (same 3 (omega arith) ∙ h .same-terms) (λ i l ne. same i (omega arith))
-
-pub unsound : (s : List ℕ) → soundTest s ≡ false → ¬ Sound s
-unsound s e h = let q : _≡_ {A = ℕ} 0 1 = cc (sound-test s .1 h) in omega arith
-
-pub sound-long : (s : List ℕ) → Sound s → 10 ≤ length s
-sound-long s h = let z = h .long in omega arith

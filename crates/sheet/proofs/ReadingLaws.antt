@@ -11,21 +11,21 @@ use Prim.Native.Nat.{ℕ, zero, suc, _+_, _-_, _*_, _≤_, _<_}
 use native.Mathlib.Nat.{add-sub-cancel-left, mul-le-mul-right, add-mul}
 use native.Mathlib.Omega.{arith}
 use mathlib.Core.Path.{_≡_, sym, _∙_, ap, ap₂}
-use mathlib.Core.Bool.{Bool, true, false, not}
-use mathlib.Core.List.{List, [], _∷_}
+use mathlib.Core.Bool.{not}
+use mathlib.Core.List.{List, []}
 use borrow.Author.Tests.{not-false, leb-false}
 use lib.Dec.{leb}
 use lib.ListN.{length, take, drop}
-use Rattle.algebra.specs.Sums.{sumTo, sumTo-zero, sumTo-suc, sumTo-mono}
-use Rattle.numbers.specs.Words.{over, part}
-use Rattle.numbers.specs.Refusals.{check, judge, Outcome, refused, result, written}
+use Rattle.algebra.specs.Sums.{sumTo, sumTo-suc, sumTo-mono}
+use Rattle.numbers.specs.Words.{over}
+use Rattle.numbers.specs.Refusals.{check, judge, Outcome, result, written}
 use Rattle.numbers.specs.declared.refusal.Refusal.{Refusal}
 use Rattle.numbers.specs.declared.refusal.Verdict.{Verdict}
 use Rattle.numbers.specs.declared.refusal.Verdict.the-variants.{Pass, Refuse}
-use Rattle.numbers.proofs.RefusalsLaws.{pass-check, after-pass, after-refuse, answer-refused}
+use Rattle.numbers.proofs.RefusalsLaws.{pass-check, after-pass, after-refuse}
 use Rattle.rows.specs.Rows.{multiplyChecks, rowProduct}
 use Rattle.rows.proofs.RowsLaws.{rows-small}
-use Rattle.sheet.specs.Layout.{modulus, degree, width, count, factorsFrom, codegree, power, end}
+use Rattle.sheet.specs.Layout.{modulus, degree, width, count, power}
 use Rattle.sheet.specs.Sheet.{Sound, soundTest, readChecks, readVerdict, rowsStart, rowsEnd}
 use Rattle.sheet.specs.Reading.{factorPart, timesChecks, timesVerdict, timesSize, timesWords}
 use Rattle.sheet.proofs.SoundTestLaws.{sound-test}

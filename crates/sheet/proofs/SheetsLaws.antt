@@ -7,7 +7,7 @@
 --   words-sound     and it is sound where c is good: soundness depends on the first T words alone
 --   sound-ext       so a slice with the same first T words as a sound sheet is sound
 -- Assumes nothing.
-use Prim.Native.Nat.{ℕ, zero, suc, _+_, _-_, _*_, _≤_, _<_}
+use Prim.Native.Nat.{ℕ, zero, suc, _+_, _*_, _≤_, _<_}
 use native.Mathlib.Omega.{arith}
 use mathlib.Core.Path.{_≡_, refl, sym, _∙_, ap, ap₂, subst}
 use mathlib.Core.List.{List}
@@ -17,29 +17,18 @@ use Rattle.algebra.specs.Sums.{sumTo, sumTo-ext}
 use Rattle.algebra.specs.Fp.{Prime}
 use Rattle.numbers.specs.Words.{word}
 use Rattle.numbers.specs.Refusals.{largestModulus}
-use Rattle.pair.specs.Pair.{unit, monic}
-use Rattle.sheet.specs.Factors.{product, IsFactors}
-use Rattle.sheet.specs.Layout.{modulus, degree, width, terms, count, rootsFrom, polynomialFrom, factorsFrom, cofactorsFrom, codegree, root, power, end, polynomial}
+use Rattle.rows.specs.Rows.{unit}
+use Rattle.split.specs.Factors.{IsFactors}
+use Rattle.sheet.specs.Layout.{modulus, degree, width, terms, count, rootsFrom, polynomialFrom, factorsFrom, root, power, end, polynomial}
 use Rattle.sheet.specs.Sheet.{Sound}
-use Rattle.sheet.proofs.FactorsLaws.{monics-ext, factors-ext}
-use Rattle.sheet.proofs.RegionsLaws.{in-rows, in-block, by-region}
-use Rattle.sheet.proofs.ContentLaws.{Content, contentOf, size, corows, headerWords, sheetWords, word-header, word-root, word-power, word-polynomial, word-factors, word-cofactors, length-sheet, SameContent, codegree-ext, corows-ext, same-corows, same-size}
+use Rattle.split.proofs.FactorsLaws.{factors-ext}
+use Rattle.sheet.proofs.RegionsLaws.{in-rows, by-region}
+use Rattle.split.proofs.BlocksLaws.{in-block}
+use Rattle.sheet.proofs.ContentLaws.{Content, contentOf, size, headerWords, sheetWords, word-header, word-root, word-power, word-polynomial, word-factors, length-sheet, SameContent, same-size}
 
--- the rows of factor i, and of cofactor i
+-- the rows of factor i
 abbrev pub factorOf : Content → ℕ → ℕ → ℕ → ℕ
 factorOf c i j t = c .factors (sumTo i (c .power) + j) t
-
-abbrev pub cofactorOf : Content → ℕ → ℕ → ℕ → ℕ
-cofactorOf c i j t = c .cofactors (sumTo i (codegree (c .D) (c .power)) + j) t
-
--- the product of the factors after i
-abbrev pub after : (p r : ℕ) → (ℕ → ℕ) → (ℕ → ℕ → ℕ → ℕ) → ℕ → ℕ → ℕ → ℕ
-after p r power a i = product p (r - suc i) (λ l. monic (power (suc i + l)) (a (suc i + l)))
-
-pub after-ext : (p k r : ℕ) (power power′ : ℕ → ℕ) (a a′ : ℕ → ℕ → ℕ → ℕ) → ((i : ℕ) → i < r → power i ≡ power′ i)
-    → ((i : ℕ) → i < r → (j : ℕ) → j < power i → (t : ℕ) → t < k → a i j t ≡ a′ i j t) → (i j t : ℕ) → t < k → after p r power a i j t ≡ after p r power′ a′ i j t
-after-ext p k r power power′ a a′ e h i =
-    monics-ext p k (r - suc i) (λ l. power (suc i + l)) (λ l. power′ (suc i + l)) (λ l. a (suc i + l)) (λ l. a′ (suc i + l)) (λ l g. e (suc i + l) (omega arith)) (λ l g. h (suc i + l) (omega arith))
 
 pub record Good (c : Content) : Type 0 where
   pub prime : Prime (c .p)
@@ -54,8 +43,6 @@ pub record Good (c : Content) : Type 0 where
   pub factors : IsFactors (c .p) (c .D) (c .k) (c .r) (c .f) (c .root) (c .power) (factorOf c)
   pub factors-reduced : (j : ℕ) → j < c .D → (t : ℕ) → t < c .k → c .factors j t < c .p
   pub factors-rest : (j : ℕ) → j < c .D → (t : ℕ) → c .k ≤ t → t < c .N → c .factors j t ≡ 0
-  pub cofactors : (i : ℕ) → i < c .r - 2 → (j : ℕ) → j < codegree (c .D) (c .power) i → (t : ℕ) → t < c .k → cofactorOf c i j t ≡ after (c .p) (c .r) (c .power) (factorOf c) i j t
-  pub cofactors-rest : (j : ℕ) → j < corows c → (t : ℕ) → c .k ≤ t → t < c .N → c .cofactors j t ≡ 0
 
 -- the rows of a factor lie among the D rows
 pub factor-row : (c : Content) → Good c → (i j : ℕ) → i < c .r → j < c .power i → sumTo i (c .power) + j < c .D
@@ -66,24 +53,10 @@ module _ (c c′ : Content) (e : SameContent c c′) (h : Good c) where
   same-factor i l j g t v =
       e .factors (sumTo i (c .power) + j) t (factor-row c h i j l g) v ∙ ap (λ x. c′ .factors (x + j) t) (sumTo-ext i (λ m u. e .powers m (omega arith)))
 
-  same-codegree : (i : ℕ) → i < c .r → codegree (c .D) (c .power) i ≡ codegree (c′ .D) (c′ .power) i
-  same-codegree i l = codegree-ext (c .D) (c′ .D) (c .power) (c′ .power) i (e .degree) (λ j g. e .powers j (omega arith))
-
-  same-cofactor : (i : ℕ) → i < c .r - 2 → (j : ℕ) → j < codegree (c .D) (c .power) i → (t : ℕ) → t < c .N → cofactorOf c i j t ≡ cofactorOf c′ i j t
-  same-cofactor i l j g t v =
-      e .cofactors (sumTo i (codegree (c .D) (c .power)) + j) t (in-block (c .r - 2) (codegree (c .D) (c .power)) i j l g) v
-      ∙ ap (λ x. c′ .cofactors (x + j) t) (corows-ext (c .D) (c′ .D) i (c .power) (c′ .power) (e .degree) (λ m u. e .powers m (omega arith)))
-
-  same-after : (i : ℕ) → (j t : ℕ) → t < c .k → after (c .p) (c .r) (c .power) (factorOf c) i j t ≡ after (c′ .p) (c′ .r) (c′ .power) (factorOf c′) i j t
-  same-after i j t g =
-      after-ext (c .p) (c .k) (c .r) (c .power) (c′ .power) (factorOf c) (factorOf c′) (e .powers) (λ i l j u t v. same-factor i l j u t (let z = h .terms-high in omega arith)) i j t g
-      ∙ ap₂ (λ p r. after p r (c′ .power) (factorOf c′) i j t) (e .modulus) (e .count)
-
   pub good-move : Good c′
   good-move =
       let ep = e .modulus in let eD = e .degree in let eN = e .width in let ek = e .terms in let er = e .count in
       let kN = h .terms-high in
-      let corows-same : corows c ≡ corows c′ = same-corows c c′ e in
       record {
         prime = subst Prime ep (h .prime);
         small = let a = h .small in omega arith;
@@ -100,10 +73,6 @@ module _ (c c′ : Content) (e : SameContent c c′) (h : Good c) where
         factors-reduced = λ j l t g.
             let a = h .factors-reduced j (omega arith) t (omega arith) in let b = e .factors j t (omega arith) (omega arith) in omega arith;
         factors-rest = λ j l t g v. sym (e .factors j t (omega arith) (omega arith)) ∙ h .factors-rest j (omega arith) t (omega arith) (omega arith);
-        cofactors = λ i l j g t v.
-            let g′ : j < codegree (c .D) (c .power) i = subst (λ x. j < x) (sym (same-codegree i (omega arith))) g in
-            sym (same-cofactor i (omega arith) j g′ t (omega arith)) ∙ h .cofactors i (omega arith) j g′ t (omega arith) ∙ same-after i j t (omega arith);
-        cofactors-rest = λ j l t g v. sym (e .cofactors j t (omega arith) (omega arith)) ∙ h .cofactors-rest j (omega arith) t (omega arith) (omega arith);
       }
 
 module _ (s : List ℕ) where
@@ -121,8 +90,6 @@ module _ (s : List ℕ) where
     factors = h .factors;
     factors-reduced = h .factors-reduced;
     factors-rest = h .factors-rest;
-    cofactors = h .cofactors;
-    cofactors-rest = h .cofactors-rest;
   }
 
   header : Sound s → (i : ℕ) → i < 10 → word s i ≡ word (headerWords (contentOf s)) i
@@ -134,16 +101,16 @@ module _ (s : List ℕ) where
   header h (suc (suc (suc (suc (suc zero))))) l = h .offset-roots
   header h (suc (suc (suc (suc (suc (suc zero)))))) l = h .offset-polynomial
   header h (suc (suc (suc (suc (suc (suc (suc zero))))))) l = h .offset-factors
-  header h (suc (suc (suc (suc (suc (suc (suc (suc zero)))))))) l = h .offset-cofactors
+  header h (suc (suc (suc (suc (suc (suc (suc (suc zero)))))))) l = h .offset-rest
   header h (suc (suc (suc (suc (suc (suc (suc (suc (suc zero))))))))) l = h .offset-end
   header h (suc (suc (suc (suc (suc (suc (suc (suc (suc (suc i)))))))))) l = absurd (let z : ⊥ = omega arith in z)
 
   pub sound-words : Sound s → (i : ℕ) → i < end s → word s i ≡ word (sheetWords (contentOf s)) i
   sound-words h =
       let c = contentOf s in
-      by-region (λ i. word s i ≡ word (sheetWords c) i) (degree s) (width s) (count s) (corows c) (let a = h .terms-low in let b = h .terms-high in omega arith)
+      by-region (λ i. word s i ≡ word (sheetWords c) i) (degree s) (width s) (count s) (let a = h .terms-low in let b = h .terms-high in omega arith)
       (λ i l. header h i l ∙ sym (word-header c i l)) (λ i l. sym (word-root c i l)) (λ i l. sym (word-power c i l))
-      (λ j l t g. sym (word-polynomial c j t l g)) (λ j l t g. sym (word-factors c j t l g)) (λ j l t g. sym (word-cofactors c j t l g))
+      (λ j l t g. sym (word-polynomial c j t l g)) (λ j l t g. sym (word-factors c j t l g))
 
   module _ (c : Content) (agree : (i : ℕ) → i < size c → word s i ≡ word (sheetWords c) i) where
     at-header : (i : ℕ) → i < 10 → word s i ≡ word (headerWords c) i
@@ -166,8 +133,6 @@ module _ (s : List ℕ) where
               ∙ agree _ (omega (arith, in-rows (c .D + 1) (c .N) j t (omega arith) g)) ∙ word-polynomial c j t l g);
           factors = λ j t l g. sym (ap₂ (λ r n. word s (factorsFrom (degree s) n r + j * n + t)) er eN ∙ ap (λ d. word s (factorsFrom d (c .N) (c .r) + j * c .N + t)) eD
               ∙ agree _ (omega (arith, in-rows (c .D) (c .N) j t l g)) ∙ word-factors c j t l g);
-          cofactors = λ j t l g. sym (ap₂ (λ r n. word s (cofactorsFrom (degree s) n r + j * n + t)) er eN ∙ ap (λ d. word s (cofactorsFrom d (c .N) (c .r) + j * c .N + t)) eD
-              ∙ agree _ (omega (arith, in-rows (corows c) (c .N) j t l g)) ∙ word-cofactors c j t l g);
         }
 
     pub words-end : end s ≡ size c
@@ -190,7 +155,7 @@ module _ (s : List ℕ) where
           offset-roots = at-header 5 (omega arith);
           offset-polynomial = at-header 6 (omega arith) ∙ ap polynomialFrom er;
           offset-factors = at-header 7 (omega arith) ∙ cc (eD, eN, er);
-          offset-cofactors = at-header 8 (omega arith) ∙ cc (eD, eN, er);
+          offset-rest = at-header 8 (omega arith) ∙ sym z;
           offset-end = at-header 9 (omega arith) ∙ sym z;
           long = omega arith;
           polynomial-reduced = g .reduced;
@@ -198,8 +163,6 @@ module _ (s : List ℕ) where
           factors = g .factors;
           factors-reduced = g .factors-reduced;
           factors-rest = g .factors-rest;
-          cofactors = g .cofactors;
-          cofactors-rest = g .cofactors-rest;
         }
 
 -- the first T words, as a list

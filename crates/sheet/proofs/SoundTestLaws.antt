@@ -10,14 +10,13 @@ use mathlib.Core.Logic.{_↔_}
 use mathlib.Core.Bool.{Bool, true, false}
 use mathlib.Core.List.{List}
 use borrow.Author.Tests.{leb-true, le-leb, ltb-true, lt-ltb, eqb-true, eq-eqb}
-use Rattle.algebra.specs.Sums.{sumTo}
 use Rattle.algebra.specs.Fp.{Prime}
 use Rattle.numbers.specs.Divisor.{leastDivisor}
 use Rattle.numbers.proofs.WordsLaws.{true-false}
 use Rattle.numbers.proofs.TestsLaws.{all-at, _&_, none-left, all-of, allTo-at, at-allTo, eqs, square, lower, past}
 use Rattle.numbers.proofs.DivisorLaws.{least-prime, prime-least}
-use Rattle.sheet.specs.Factors.{IsFactors}
-use Rattle.sheet.specs.Layout.{modulus, degree, width, terms, count, codegree, power, root, polynomial, factorRows, cofactorRows}
+use Rattle.split.specs.Factors.{IsFactors}
+use Rattle.sheet.specs.Layout.{modulus, degree, width, terms, power, root, polynomial, factorRows}
 use Rattle.sheet.specs.Sheet.{Sound, primeTest, factorsTest, headerTest, bodyTest, soundTest}
 
 pub prime-test : (p : ℕ) → (primeTest p ≡ true) ↔ Prime p
@@ -87,7 +86,7 @@ module _ (s : List ℕ) where
           offset-roots = eqb-true _ _ (all-at _ t 7);
           offset-polynomial = eqb-true _ _ (all-at _ t 8);
           offset-factors = eqb-true _ _ (all-at _ t 9);
-          offset-cofactors = eqb-true _ _ (all-at _ t 10);
+          offset-rest = eqb-true _ _ (all-at _ t 10);
           offset-end = eqb-true _ _ (all-at _ t 11);
           long = leb-true _ _ (all-at _ t 12);
           polynomial-reduced = upto (lower (suc (degree s)) (width s) (modulus s) (polynomial s) .0 (all-at _ u 0));
@@ -95,8 +94,6 @@ module _ (s : List ℕ) where
           factors = factors-test _ _ _ _ _ _ _ _ .0 (all-at _ u 2);
           factors-reduced = lower (degree s) (terms s) (modulus s) (factorRows s) .0 (all-at _ u 3);
           factors-rest = past (degree s) (terms s) (width s) (factorRows s) .0 (all-at _ u 4);
-          cofactors = λ i l. square (codegree (degree s) (power s) i) (terms s) _ _ .0 (allTo-at (count s - 2) _ (all-at _ u 5) i l);
-          cofactors-rest = past (sumTo (count s - 2) (codegree (degree s) (power s))) (terms s) (width s) (cofactorRows s) .0 (all-at _ u 6);
         },
     λ h. sound-whole (all-of (
         prime-test (modulus s) .1 (h .prime)
@@ -109,7 +106,7 @@ module _ (s : List ℕ) where
         & eq-eqb _ _ (h .offset-roots)
         & eq-eqb _ _ (h .offset-polynomial)
         & eq-eqb _ _ (h .offset-factors)
-        & eq-eqb _ _ (h .offset-cofactors)
+        & eq-eqb _ _ (h .offset-rest)
         & eq-eqb _ _ (h .offset-end)
         & le-leb _ _ (h .long)
         & none-left
@@ -120,8 +117,6 @@ module _ (s : List ℕ) where
         & factors-test _ _ _ _ _ _ _ _ .1 (h .factors)
         & lower (degree s) (terms s) (modulus s) (factorRows s) .1 (h .factors-reduced)
         & past (degree s) (terms s) (width s) (factorRows s) .1 (h .factors-rest)
-        & at-allTo (count s - 2) _ (λ i l. square (codegree (degree s) (power s) i) (terms s) _ _ .1 (h .cofactors i l))
-        & past (sumTo (count s - 2) (codegree (degree s) (power s))) (terms s) (width s) (cofactorRows s) .1 (h .cofactors-rest)
         & none-left
         )),
   )

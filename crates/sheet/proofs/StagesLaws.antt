@@ -1,37 +1,27 @@
 -- Laws of the stages of the test of a sheet: what their loops find, and that every place that they read is there.
---   decides-yes, decides-no      an answer
 --   modulus-small                what rows 1 and 2 let pass
 --   part-pass, part-fail         the columns of a row that `first_large` judges
---   power-sums, .., corows-small  the bounds that a sheet's shape gives
---   kept-rows, .., tables-there  where things stand, as the code adds it up
+--   power-sums, power-high, power-small   the bounds that a sheet's shape gives
 -- Assumes nothing.
 use Prim.Native.Nat.{ℕ, suc, _+_, _-_, _*_, _≤_, _<_}
-use native.Mathlib.Nat.{mul-le-mul, le-refl}
+use native.Mathlib.Nat.{mul-le-mul}
 use native.Mathlib.Omega.{arith}
-use mathlib.Core.Path.{_≡_, sym, ap, ap₂, subst, _∙_}
-use mathlib.Core.Bool.{true, false}
+use mathlib.Core.Path.{_≡_, ap, subst, _∙_}
 use mathlib.Core.List.{List}
-use borrow.Author.Tests.{ltb-false, lt-ltb, le-ltb}
+use borrow.Author.Tests.{ltb-false}
 use lib.Dec.{ltb}
 use lib.ListN.{length, take, drop, length-drop}
 use lib.Seq.{getD-take, getD-drop, length-take-le}
-use Rattle.algebra.specs.Sums.{sumTo, sumTo-suc, sumTo-bound, sumTo-mono}
+use Rattle.algebra.specs.Sums.{sumTo, sumTo-suc, sumTo-mono}
 use Rattle.algebra.specs.Fp.{Prime}
 use Rattle.numbers.specs.Words.{word, firstLarge, outside}
 use Rattle.numbers.specs.Refusals.{check, judge, modulusChecks, largestModulus}
 use Rattle.numbers.specs.declared.refusal.Verdict.the-variants.{Pass, Refuse}
 use Rattle.numbers.specs.declared.refusal.Refusal.{Refusal}
-use Rattle.numbers.proofs.WordsLaws.{true-false, none-large}
+use Rattle.numbers.proofs.WordsLaws.{none-large, large-there}
 use Rattle.numbers.proofs.RefusalsLaws.{pass-check, neither, modulus-fine}
-use Rattle.pair.proofs.TestLaws.{large-there}
-use Rattle.sheet.specs.Layout.{degree, width, count, polynomialFrom, factorsFrom, cofactorsFrom, codegree, power, end}
-use Rattle.sheet.specs.Stages.{Decides, HeaderFits, PowersFit, Shape, corows, highFrom, leftFrom}
-
-pub decides-yes : {A : Type 0} → A → Decides true A
-decides-yes a = record { yes = λ _. a; no = λ e. true-false e }
-
-pub decides-no : {A : Type 0} → (A → ⊥) → Decides false A
-decides-no n = record { yes = λ e. true-false (sym e); no = λ _. n }
+use Rattle.sheet.specs.Layout.{degree, width, count, power}
+use Rattle.sheet.specs.Stages.{HeaderFits, PowersFit}
 
 pub modulus-small : (p : ℕ) → judge (modulusChecks p) ≡ Pass → p ≤ largestModulus
 modulus-small p e =
@@ -46,8 +36,9 @@ modulus-refused p r e prime small = let m = modulus-fine p prime small in let z 
 pub all-rows-small : (rows n : ℕ) → rows ≤ 1200 → n ≤ 256 → rows * n ≤ 307200
 all-rows-small rows n h g = let l : rows * n ≤ 1200 * 256 = mul-le-mul {n₂ = 1200} {m₂ = 256} h g in omega arith
 
-pub fewer-rows : (a b n : ℕ) → a ≤ b → a * n ≤ b * n
-fewer-rows a b n h = mul-le-mul {n₁ = a} {m₁ = n} {n₂ = b} {m₂ = n} h (le-refl n)
+-- the factors' rows fit the scratch that they are worked out in
+pub rows-room : (s : List ℕ) → HeaderFits s → degree s * width s ≤ 8192
+rows-room s h = let z : degree s * width s ≤ 32 * 256 = mul-le-mul {n₂ = 32} {m₂ = 256} (h .degree-high) (h .width-high) in omega arith
 
 -- the columns from..to − 1 of the row that begins at word b, as `first_large` is lent them
 module _ (q : ℕ) (s : List ℕ) (b from to : ℕ) (ordered : from ≤ to) (fits : b + to ≤ length s) where
@@ -86,39 +77,3 @@ module _ (s : List ℕ) (h : HeaderFits s) (g : PowersFit s (count s) (degree s)
 
   pub power-small : (i : ℕ) → i < count s → power s i ≤ 32
   power-small i l = omega (arith, power-high i l, h .degree-high)
-
-  pub corows-small : (i : ℕ) → i ≤ count s → sumTo i (codegree (degree s) (power s)) ≤ 1024
-  corows-small i l =
-      let d = h .degree-high in
-      let c = h .count-high in
-      omega (arith, sumTo-bound i 32 (codegree (degree s) (power s)) (λ k u. omega arith))
-
--- where things stand, as the code adds it up
-module _ (s : List ℕ) where
-  pub kept-rows : (k x : ℕ) → k ≡ count s - 2 → x ≡ sumTo k (codegree (degree s) (power s)) → x ≡ corows s
-  kept-rows k x e g = g ∙ ap (λ (k : ℕ). sumTo k (codegree (degree s) (power s))) e
-
-  pub end-is : (x y : ℕ) → x ≡ cofactorsFrom (degree s) (width s) (count s) → y ≡ corows s → x + y * width s ≡ end s
-  end-is x y e g = ap₂ (λ (x y : ℕ). x + y * width s) e g
-
-  pub high-kept : (i x y : ℕ) → i + 2 < count s → x ≡ cofactorsFrom (degree s) (width s) (count s) → y ≡ sumTo i (codegree (degree s) (power s)) → x + y * width s ≡ highFrom s i
-  unfolding highFrom
-  high-kept i x y l e g = ap₂ (λ (x y : ℕ). x + y * width s) e g ∙ rw (lt-ltb (i + 2) (count s) l)
-
-  pub high-last : (i x y : ℕ) → count s ≤ i + 2 → x ≡ factorsFrom (degree s) (width s) (count s) → y ≡ sumTo (i + 1) (power s) → x + y * width s ≡ highFrom s i
-  unfolding highFrom
-  high-last i x y l e g = ap₂ (λ (x y : ℕ). x + y * width s) e g ∙ rw (le-ltb (i + 2) (count s) l)
-
-  pub left-first : (i x : ℕ) → i < 1 → x ≡ polynomialFrom (count s) → x ≡ leftFrom s i
-  unfolding leftFrom
-  left-first i x l e = e ∙ rw (lt-ltb i 1 l)
-
-  pub left-next : (i x : ℕ) → 1 ≤ i → x ≡ highFrom s (i - 1) → x ≡ leftFrom s i
-  unfolding leftFrom
-  left-next i x l e = e ∙ rw (le-ltb i 1 l)
-
-  pub tables-there : Shape s → (o x : ℕ) → o ≡ factorsFrom (degree s) (width s) (count s) → x ≡ corows s → o + (degree s + x) * width s ≤ length s
-  tables-there h o x e g =
-      let l = h .offsets .long in
-      let q : o + (degree s + x) * width s ≡ factorsFrom (degree s) (width s) (count s) + (degree s + corows s) * width s = ap₂ (λ (o x : ℕ). o + (degree s + x) * width s) e g in
-      omega arith

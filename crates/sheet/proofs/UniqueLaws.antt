@@ -9,18 +9,18 @@ use Prim.Native.Nat.{ℕ, suc, _+_, _-_, _≤_, _<_}
 use native.Mathlib.Nat.{lt-of-not-le}
 use native.Mathlib.Decide.{decLe}
 use native.Mathlib.Omega.{arith}
-use mathlib.Core.Path.{_≡_, sym, _∙_, ap, ap₂, subst}
+use mathlib.Core.Path.{_≡_, sym, _∙_, ap}
 use mathlib.Core.List.{List}
 use lib.ListN.{take}
-use Rattle.algebra.specs.Sums.{sumTo, sumTo-ext}
+use Rattle.algebra.specs.Sums.{sumTo-ext}
 use Rattle.numbers.specs.Words.{word}
-use Rattle.sheet.specs.Factors.{IsFactors, SameFactors, SamePolynomial}
-use Rattle.sheet.specs.Layout.{modulus, degree, width, terms, codegree, end, polynomial}
+use Rattle.split.specs.Factors.{IsFactors, SameFactors, SamePolynomial}
+use Rattle.sheet.specs.Layout.{modulus, degree, width, terms, end, polynomial}
 use Rattle.sheet.specs.Sheet.{Sound, Given, Holds}
-use Rattle.sheet.proofs.FactorsLaws.{factors-unique, factors-determine}
-use Rattle.sheet.proofs.RegionsLaws.{Block, locate}
-use Rattle.sheet.proofs.ContentLaws.{Content, contentOf, corows, SameContent, codegree-ext, corows-ext, words-same, same-size}
-use Rattle.sheet.proofs.SheetsLaws.{factorOf, cofactorOf, after, after-ext, Good, factor-row, sound-good, sound-words, sound-take}
+use Rattle.split.proofs.FactorsLaws.{factors-unique, factors-determine}
+use Rattle.split.proofs.BlocksLaws.{Block, locate}
+use Rattle.sheet.proofs.ContentLaws.{Content, contentOf, SameContent, words-same, same-size}
+use Rattle.sheet.proofs.SheetsLaws.{factorOf, Good, factor-row, sound-good, sound-words, sound-take}
 
 module _ (c c′ : Content) (h : Good c) (h′ : Good c′) (same-modulus : c .p ≡ c′ .p) where
   factors′ : IsFactors (c .p) (c′ .D) (c′ .k) (c′ .r) (c′ .f) (c′ .root) (c′ .power) (factorOf c′)
@@ -50,12 +50,6 @@ module _ (c c′ : Content) (h : Good c) (h′ : Good c′) (same-modulus : c .p
     e-factor : (i : ℕ) → i < c .r → (j : ℕ) → j < c .power i → (t : ℕ) → t < c .k → factorOf c i j t ≡ factorOf c′ i j t
     e-factor i l j g t v = lists .columns i l j g t (let z = suc-n in omega arith)
 
-    e-codegree : (i : ℕ) → i < c .r → codegree (c .D) (c .power) i ≡ codegree (c′ .D) (c′ .power) i
-    e-codegree i l = codegree-ext (c .D) (c′ .D) (c .power) (c′ .power) i eD (λ j g. lists .powers j (omega arith))
-
-    e-corows : corows c ≡ corows c′
-    e-corows = corows-ext (c .D) (c′ .D) (c .r - 2) (c .power) (c′ .power) eD (λ i l. lists .powers i (omega arith)) ∙ ap (λ r. sumTo (r - 2) (codegree (c′ .D) (c′ .power))) (lists .counts)
-
     e-factors : (j t : ℕ) → j < c .D → t < c .N → c .factors j t ≡ c′ .factors j t
     e-factors j t l v = go (decLe (suc t) (c .k))
       where
@@ -70,27 +64,6 @@ module _ (c c′ : Content) (h : Good c) (h′ : Good c′) (same-modulus : c .p
             let y′ = lt-of-not-le y in
             h .factors-rest j l t (omega arith) v ∙ sym (h′ .factors-rest j (omega arith) t (omega arith) (omega arith))
 
-    e-cofactor : (i : ℕ) → i < c .r - 2 → (j : ℕ) → j < codegree (c .D) (c .power) i → (t : ℕ) → t < c .k → cofactorOf c i j t ≡ cofactorOf c′ i j t
-    e-cofactor i l j g t v =
-        h .cofactors i l j g t v ∙ after-ext (c .p) (c .k) (c .r) (c .power) (c′ .power) (factorOf c) (factorOf c′) (lists .powers) e-factor i j t v
-        ∙ ap₂ (λ p r. after p r (c′ .power) (factorOf c′) i j t) same-modulus (lists .counts)
-        ∙ sym (h′ .cofactors i (let z = lists .counts in omega arith) j (subst (λ x. j < x) (e-codegree i (omega arith)) g) t (omega arith))
-
-    e-cofactors : (j t : ℕ) → j < corows c → t < c .N → c .cofactors j t ≡ c′ .cofactors j t
-    e-cofactors j t l v = go (decLe (suc t) (c .k))
-      where
-        b : Block (c .r - 2) (codegree (c .D) (c .power)) j
-        b = locate (c .r - 2) (codegree (c .D) (c .power)) j l
-
-        go : Dec (suc t ≤ c .k) → c .cofactors j t ≡ c′ .cofactors j t
-        go (yes y) =
-            ap (λ x. c .cofactors x t) (b .at) ∙ e-cofactor (b .block) (b .block-low) (b .row) (b .row-low) t y
-            ∙ ap (λ x. c′ .cofactors (x + b .row) t) (sym (corows-ext (c .D) (c′ .D) (b .block) (c .power) (c′ .power) eD (λ i g. lists .powers i (let z = b .block-low in omega arith)))) ∙ ap (λ x. c′ .cofactors x t) (sym (b .at))
-        go (no y) =
-            let y′ = lt-of-not-le y in
-            let z = e-corows in
-            h .cofactors-rest j l t (omega arith) v ∙ sym (h′ .cofactors-rest j (omega arith) t (omega arith) (omega arith))
-
     pub good-unique : SameContent c c′
     good-unique = record {
       modulus = same-modulus;
@@ -102,7 +75,6 @@ module _ (c c′ : Content) (h : Good c) (h′ : Good c′) (same-modulus : c .p
       powers = lists .powers;
       polynomial = ef;
       factors = e-factors;
-      cofactors = e-cofactors;
     }
 
 module _ (s u : List ℕ) (h : Sound s) (h′ : Sound u) (ep : modulus s ≡ modulus u) (eD : degree s ≡ degree u) (eN : width s ≡ width u) (ek : terms s ≡ terms u)

@@ -1,10 +1,9 @@
--- Where the words of a sheet stand: the one place that knows. Roots, factors and cofactors are counted from 0.
+-- Where the words of a sheet stand: the one place that knows. Roots and factors are counted from 0.
 --   modulus, degree, width, terms, count           header words 0 to 4: p, D, N, k, r
---   rootsFrom, polynomialFrom, factorsFrom, cofactorsFrom, total   the offsets and the end, from D, N, r and the powers
---   codegree D power i                             the degree of cofactor i
---   root, power, polynomial, factor, cofactor      readers by name
+--   rootsFrom, polynomialFrom, factorsFrom, total  the offsets and the end, T, from D, N and r
+--   root, power, polynomial, factor, end           readers by name
 -- Assumes nothing.
-use Prim.Native.Nat.{ℕ, zero, suc, _+_, _-_, _*_}
+use Prim.Native.Nat.{ℕ, _+_, _*_}
 use mathlib.Core.List.{List}
 use Rattle.algebra.specs.Sums.{sumTo}
 use Rattle.numbers.specs.Words.{word}
@@ -29,7 +28,7 @@ terms s = word s 3
 abbrev pub count : List ℕ → ℕ
 count s = word s 4
 
--- the offsets, of the roots, of the polynomial, of the factors, of the cofactors, and the end, from D, N, r and the powers
+-- the offsets, of the roots, of the polynomial and of the factors, and the end, from D, N and r
 abbrev pub rootsFrom : ℕ
 rootsFrom = 10
 
@@ -39,15 +38,8 @@ polynomialFrom r = 10 + 2 * r
 abbrev pub factorsFrom : (D N r : ℕ) → ℕ
 factorsFrom D N r = 10 + 2 * r + (D + 1) * N
 
-abbrev pub cofactorsFrom : (D N r : ℕ) → ℕ
-cofactorsFrom D N r = 10 + 2 * r + (2 * D + 1) * N
-
--- the degree of cofactor i: D less the powers of the factors 0..i
-abbrev pub codegree : ℕ → (ℕ → ℕ) → ℕ → ℕ
-codegree D power i = D - sumTo (suc i) power
-
-abbrev pub total : (D N r : ℕ) → (ℕ → ℕ) → ℕ
-total D N r power = cofactorsFrom D N r + sumTo (r - 2) (codegree D power) * N
+abbrev pub total : (D N r : ℕ) → ℕ
+total D N r = 10 + 2 * r + (2 * D + 1) * N
 
 -- readers
 abbrev pub root : List ℕ → ℕ → ℕ
@@ -57,7 +49,7 @@ abbrev pub power : List ℕ → ℕ → ℕ
 power s i = word s (rootsFrom + 2 * i + 1)
 
 abbrev pub end : List ℕ → ℕ
-end s = total (degree s) (width s) (count s) (power s)
+end s = total (degree s) (width s) (count s)
 
 abbrev pub polynomial : List ℕ → ℕ → ℕ → ℕ
 polynomial s = rowsAt s (polynomialFrom (count s)) (width s)
@@ -68,10 +60,3 @@ factorRows s = rowsAt s (factorsFrom (degree s) (width s) (count s)) (width s)
 
 abbrev pub factor : List ℕ → ℕ → ℕ → ℕ → ℕ
 factor s i j t = factorRows s (sumTo i (power s) + j) t
-
--- all cofactors' rows, and those of cofactor i
-abbrev pub cofactorRows : List ℕ → ℕ → ℕ → ℕ
-cofactorRows s = rowsAt s (cofactorsFrom (degree s) (width s) (count s)) (width s)
-
-abbrev pub cofactor : List ℕ → ℕ → ℕ → ℕ → ℕ
-cofactor s i j t = cofactorRows s (sumTo i (codegree (degree s) (power s)) + j) t

@@ -1,4 +1,3 @@
-pub mod Factors
 pub mod Layout
 pub mod Sheet
 pub mod Stages

@@ -1,35 +1,30 @@
--- The sound sheet, and what open, extend and reading a factor answer and leave.
---   Sound s            all that document 01 says of a sheet, clause by clause; it depends on the words alone
+-- The sound sheet, and what reading a factor answers.
+--   Sound s            all that documents 01 and 02 (F-8) say of a sheet, clause by clause; it depends on the words alone
 --   soundTest s        the same as a test that computes (`sound-test` shows that they are one)
 --   Given              what open is given: p, D, N, the rows of the polynomial and the roots
---   powersOf g         powers, all 1 or more, of the listed roots that give f at X = 0, where there are any
---   needed g           T
---   openChecks, extendChecks, readChecks   the checks
+--   readChecks         the checks of reading
 --   Holds g k s        s is a sound sheet that holds what open was given, with k terms
---   Opened, Extended   what open and extend answer and leave
 --   readFactor, readPart   what reading factor i answers
 -- Assumes nothing.
-use Prim.Native.Nat.{ℕ, zero, suc, _+_, _-_, _*_, _≤_, _<_, _%_}
+use Prim.Native.Nat.{ℕ, zero, suc, _+_, _-_, _*_, _≤_, _<_}
 use mathlib.Core.Path.{_≡_}
-use mathlib.Core.Logic.{_≢_}
-use mathlib.Core.Bool.{Bool, true, false, not, _||_}
-use mathlib.Core.Option.{Option, none, some}
-use mathlib.Core.List.{List, [], _∷_, _++_, map}
+use mathlib.Core.Bool.{Bool, true, false, not}
+use mathlib.Core.List.{List, [], _∷_}
 use lib.Dec.{leb, ltb, eqb}
-use lib.ListN.{length, drop}
+use lib.ListN.{length}
 use Rattle.algebra.specs.Sums.{sumTo}
 use Rattle.algebra.specs.Fp.{Prime}
-use Rattle.numbers.specs.Words.{word, allTo, all, firstLarge, outside, part}
+use Rattle.numbers.specs.Words.{word, allTo, all, part}
 use Rattle.numbers.specs.Divisor.{leastDivisor}
-use Rattle.numbers.specs.Refusals.{Check, check, judge, Outcome, accepted, refused, result, modulusChecks, unreduced, largestModulus}
+use Rattle.numbers.specs.Refusals.{Check, check, judge, Outcome, accepted, refused, largestModulus}
 use Rattle.numbers.specs.declared.refusal.Verdict.{Verdict}
 use Rattle.numbers.specs.declared.refusal.Verdict.the-variants.{Pass, Refuse}
-use Rattle.pair.specs.Pair.{unit, monic, Leaves}
+use Rattle.rows.specs.Rows.{unit, monic}
 use Rattle.sheet.specs.declared.Factor.{Factor}
 use Rattle.sheet.specs.declared.FactorAnswer.{FactorAnswer}
 use Rattle.sheet.specs.declared.FactorAnswer.the-variants.{Is, Refused}
-use Rattle.sheet.specs.Factors.{product, split, rootPower, IsFactors}
-use Rattle.sheet.specs.Layout.{rowsAt, modulus, degree, width, terms, count, rootsFrom, polynomialFrom, factorsFrom, cofactorsFrom, codegree, total, root, power, end, polynomial, factorRows, factor, cofactorRows, cofactor}
+use Rattle.split.specs.Factors.{product, split, rootPower, IsFactors}
+use Rattle.sheet.specs.Layout.{rowsAt, modulus, degree, width, terms, count, rootsFrom, polynomialFrom, factorsFrom, root, power, end, polynomial, factorRows, factor}
 
 -- Sound, clause by clause.
 pub record Sound (s : List ℕ) : Type 0 where
@@ -44,7 +39,7 @@ pub record Sound (s : List ℕ) : Type 0 where
   pub offset-roots : word s 5 ≡ rootsFrom
   pub offset-polynomial : word s 6 ≡ polynomialFrom (count s)
   pub offset-factors : word s 7 ≡ factorsFrom (degree s) (width s) (count s)
-  pub offset-cofactors : word s 8 ≡ cofactorsFrom (degree s) (width s) (count s)
+  pub offset-rest : word s 8 ≡ end s
   pub offset-end : word s 9 ≡ end s
   pub long : end s ≤ length s
   -- the polynomial: words below p, row D is 1, 0, 0, ..
@@ -54,10 +49,6 @@ pub record Sound (s : List ℕ) : Type 0 where
   pub factors : IsFactors (modulus s) (degree s) (terms s) (count s) (polynomial s) (root s) (power s) (factor s)
   pub factors-reduced : (j : ℕ) → j < degree s → (t : ℕ) → t < terms s → factorRows s j t < modulus s
   pub factors-rest : (j : ℕ) → j < degree s → (t : ℕ) → terms s ≤ t → t < width s → factorRows s j t ≡ 0
-  -- cofactor i is the product of the factors after i
-  pub cofactors : (i : ℕ) → i < count s - 2 → (j : ℕ) → j < codegree (degree s) (power s) i → (t : ℕ) → t < terms s
-      → cofactor s i j t ≡ product (modulus s) (count s - suc i) (λ l. monic (power s (suc i + l)) (factor s (suc i + l))) j t
-  pub cofactors-rest : (j : ℕ) → j < sumTo (count s - 2) (codegree (degree s) (power s)) → (t : ℕ) → terms s ≤ t → t < width s → cofactorRows s j t ≡ 0
 
 -- The same as a test that computes (`sound-test` shows that they are one).
 unfoldable pub primeTest : ℕ → Bool
@@ -89,7 +80,7 @@ headerTest s =
     ∷ eqb (word s 5) rootsFrom
     ∷ eqb (word s 6) (polynomialFrom (count s))
     ∷ eqb (word s 7) (factorsFrom (degree s) (width s) (count s))
-    ∷ eqb (word s 8) (cofactorsFrom (degree s) (width s) (count s))
+    ∷ eqb (word s 8) (end s)
     ∷ eqb (word s 9) (end s)
     ∷ leb (end s) (length s)
     ∷ []
@@ -103,9 +94,6 @@ bodyTest s =
     ∷ factorsTest (modulus s) (degree s) (terms s) (count s) (polynomial s) (root s) (power s) (factor s)
     ∷ allTo (degree s) (λ j. allTo (terms s) (λ t. ltb (factorRows s j t) (modulus s)))
     ∷ allTo (degree s) (λ j. allTo (width s - terms s) (λ t. eqb (factorRows s j (terms s + t)) 0))
-    ∷ allTo (count s - 2) (λ i. allTo (codegree (degree s) (power s) i) (λ j. allTo (terms s) (λ t.
-    eqb (cofactor s i j t) (product (modulus s) (count s - suc i) (λ l. monic (power s (suc i + l)) (factor s (suc i + l))) j t))))
-    ∷ allTo (sumTo (count s - 2) (codegree (degree s) (power s))) (λ j. allTo (width s - terms s) (λ t. eqb (cofactorRows s j (terms s + t)) 0))
     ∷ []
     )
 

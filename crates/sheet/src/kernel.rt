@@ -1,18 +1,119 @@
-// What other crates write into a sheet. These trust their caller: they have a `requires`, and are for the crates of this repository. All are
-// proved for every modulus below 2^24.
+// The factors of a sheet, worked out anew, and compared with those stored. These trust their caller: they have a `requires`, and are for the crates of
+// this repository. All are proved for every modulus below 2^24.
+use crate::layout;
+use columns::copy;
+use columns::load_column;
+use split::factors::find_factors;
 ghost use mathlib.Core.Path.{_≡_};
-ghost use Prim.Native.Nat.{ℕ, _-_, _≤_, _<_};
+ghost use mathlib.Core.Bool.{true};
+ghost use Prim.Native.Nat.{ℕ, _+_, _*_, _≤_, _<_};
 ghost use lib.ListN.{length};
-ghost use Rattle.numbers.specs.Words.{tabulate};
-ghost use Rattle.sheet.specs.Factors.{rootPower};
+ghost use Rattle.numbers.specs.Words.{word, Decides};
+ghost use Rattle.sheet.specs.Layout.{degree, width, terms, count};
+ghost use Rattle.sheet.specs.Sheet.{Sound};
+ghost use Rattle.sheet.specs.Stages.{Front, Computed, WorkedOut, SameTerms, upTo};
 
-// (Y − c)^m, m + 1 words: Y^m at Y − c.
-pub fn root_power(p: u32, c: u32, line: &mut [u32])
-    requires { ⌜ (2 ≤ p) × (p < 16777216) × (c < p) × (1 ≤ length (now line)) × (length (now line) ≤ 33) ⌝ }
-    ensures { λ _. ⌜ now (line .exit) ≡ tabulate (length (now (line .entry))) (rootPower p c (length (now (line .entry)) - 1)) ⌝ }
+// With room for the roots, the powers, and what finding the factors wants for scratch.
+fn work_with(
+    s: &[u32],
+    w: usize,
+    roots: &mut [u32],
+    powers: &mut [u32],
+    c: &mut [u32],
+    line: &mut [u32],
+    rows: &mut [u32],
+) -> bool
+    requires { ⌜ Front (now s) × (1 ≤ w) × (w ≤ width (now s)) × (length (now roots) ≡ count (now s)) × (length (now powers) ≡ count (now s)) × (length (now c) ≡ degree (now s))
+        × (length (now line) ≡ degree (now s) + 1) × (length (now rows) ≡ degree (now s) * width (now s)) ⌝ }
+    ensures { λ found. ⌜ WorkedOut (now (s .entry)) w found (now (rows .exit)) ⌝ }
 {
-    let rows = line.len();
-    let mut power = [0u32; 33];
-    power[rows - 1] = 1;
-    rows::kernel::shift(p, (p - c) % p, &power[..rows], rows, 1, line);
+    let n = s[2] as usize;
+    let from = layout::polynomial_from(s[4] as usize);
+    let end = from + (s[1] as usize) * n;
+    load_column(&s[10..from], 2, 0, roots);
+    load_column(&s[10..from], 2, 1, powers);
+    copy(&s[from..end], rows);
+    find_factors(s[0], n, roots, powers, w, c, line, rows)
+}
+
+// Whether the sheet's polynomial has factors: whether it is, at X = 0, the product of the powers of Y − c that the sheet lists. If so, `rows` becomes the
+// factors' rows, to w terms.
+fn work_out(s: &[u32], w: usize, rows: &mut [u32]) -> bool
+    requires { ⌜ Front (now s) × (1 ≤ w) × (w ≤ width (now s)) × (length (now rows) ≡ degree (now s) * width (now s)) ⌝ }
+    ensures { λ found. ⌜ WorkedOut (now (s .entry)) w found (now (rows .exit)) ⌝ }
+{
+    let d = s[1] as usize;
+    let r = s[4] as usize;
+    let mut roots = [0u32; 32];
+    let mut powers = [0u32; 32];
+    let mut c = [0u32; 32];
+    let mut line = [0u32; 33];
+    work_with(
+        s,
+        w,
+        &mut roots[..r],
+        &mut powers[..r],
+        &mut c[..d],
+        &mut line[..d + 1],
+        rows,
+    )
+}
+
+// A word of a row, and 0 from column k on.
+fn cut_word(k: usize, row: &[u32], t: usize) -> u32
+    requires { ⌜ t < length (now row) ⌝ }
+    ensures { λ x. ⌜ x ≡ upTo k (word (now (row .entry))) t ⌝ }
+{
+    if t < k {
+        return row[t];
+    }
+    0
+}
+
+fn same_row(k: usize, stored: &[u32], computed: &[u32]) -> bool
+    requires { ⌜ (length (now computed) ≡ length (now stored)) × (k ≤ length (now stored)) ⌝ }
+    ensures { λ b. ⌜ Decides b ((t : ℕ) → t < length (now (stored .entry)) → word (now (stored .entry)) t ≡ upTo k (word (now (computed .entry))) t) ⌝ }
+{
+    let mut t = 0;
+    while t < stored.len() {
+        if stored[t] != cut_word(k, computed, t) {
+            return false;
+        }
+        t += 1;
+    }
+    true
+}
+
+// Whether the stored rows are the computed ones below column k, and 0 from there on.
+fn same_terms(n: usize, k: usize, d: usize, stored: &[u32], computed: &[u32]) -> bool
+    requires { ⌜ (n ≤ 256) × (d ≤ 32) × (length (now stored) ≡ d * n) × (length (now computed) ≡ d * n) × (k ≤ n) ⌝ }
+    ensures { λ b. ⌜ Decides b (SameTerms n k d (now (stored .entry)) (now (computed .entry))) ⌝ }
+{
+    let mut j = 0;
+    while j < d {
+        let a = j * n;
+        let e = a + n;
+        if !same_row(k, &stored[a..e], &computed[a..e]) {
+            return false;
+        }
+        j += 1;
+    }
+    true
+}
+
+// Whether the factors' rows are the right ones, so that the sheet is sound. They are worked out anew, in `rows`, to as many terms as the sheet has or more.
+pub fn factors_fit(s: &[u32], to: usize, rows: &mut [u32]) -> bool
+    requires { ⌜ Front (now s) × (terms (now s) ≤ to) × (to ≤ width (now s)) × (length (now rows) ≡ degree (now s) * width (now s)) ⌝ }
+    ensures sound { λ b. ⌜ Decides b (Sound (now (s .entry))) ⌝ }
+    ensures rows { λ b. ⌜ (b ≡ true → Computed (now (s .entry)) to (now (rows .exit))) ⌝ }
+{
+    let d = s[1] as usize;
+    let n = s[2] as usize;
+    let k = s[3] as usize;
+    let from = layout::factors_from(d, n, s[4] as usize);
+    if !work_out(s, to, rows) {
+        return false;
+    }
+    let end = from + d * n;
+    same_terms(n, k, d, &s[from..end], rows)
 }

@@ -1,9 +1,9 @@
-// Where the words of a sheet stand: the one place of the code that knows. Header words: 0 p, 1 D, 2 N, 3 k, 4 r, 5 to 8 offsets, 9 total.
+// Where the words of a sheet stand: the one place of the code that knows. Header words: 0 p, 1 D, 2 N, 3 k, 4 r, 5 to 7 offsets, 8 and 9 total.
 ghost use mathlib.Core.Path.{_≡_};
 ghost use Prim.Native.Nat.{ℕ, _+_, _*_, _≤_, _<_};
 ghost use lib.ListN.{length};
 ghost use Rattle.algebra.specs.Sums.{sumTo};
-ghost use Rattle.sheet.specs.Layout.{polynomialFrom, factorsFrom, cofactorsFrom, codegree, power};
+ghost use Rattle.sheet.specs.Layout.{polynomialFrom, factorsFrom, total, power};
 
 pub const ROOTS_FROM: usize = 10;
 
@@ -21,9 +21,10 @@ pub fn factors_from(d: usize, n: usize, r: usize) -> usize
     10 + 2 * r + (d + 1) * n
 }
 
-pub fn cofactors_from(d: usize, n: usize, r: usize) -> usize
+// T, where the factors' rows end.
+pub fn total_of(d: usize, n: usize, r: usize) -> usize
     requires { ⌜ (d ≤ 32) × (n ≤ 256) × (r ≤ 32) ⌝ }
-    ensures { λ o. ⌜ o ≡ cofactorsFrom d n r ⌝ }
+    ensures { λ o. ⌜ o ≡ total d n r ⌝ }
 {
     10 + 2 * r + (2 * d + 1) * n
 }
@@ -37,22 +38,6 @@ pub fn rows_before(s: &[u32], i: usize) -> usize
     let mut l = 0;
     while l < i {
         sum += s[10 + 2 * l + 1] as usize;
-        l += 1;
-    }
-    sum
-}
-
-// The rows of the cofactors before cofactor i: the sum of their degrees.
-pub fn corows_before(s: &[u32], d: usize, i: usize) -> usize
-    requires { ⌜ (i ≤ 32) × (d ≤ 32) × (10 + 2 * i ≤ length (now s)) × (sumTo i (power (now s)) ≤ d) ⌝ }
-    ensures { λ o. ⌜ o ≡ sumTo i (codegree d (power (now (s .entry)))) ⌝ }
-{
-    let mut left = d;
-    let mut sum = 0;
-    let mut l = 0;
-    while l < i {
-        left -= s[10 + 2 * l + 1] as usize;
-        sum += left;
         l += 1;
     }
     sum

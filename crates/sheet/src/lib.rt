@@ -1,11 +1,11 @@
-// The factor sheet: a polynomial, its roots at X = 0 with their powers, and its Hensel factors and cofactors to k terms, in words that leave
-// the house and come back. Every call judges the words that it is lent; a refusal changes none.
+// The factor sheet: a polynomial, its roots at X = 0 with their powers, and its Hensel factors to k terms, in words that leave the house and come
+// back. Every call judges the words that it is lent; a refusal changes none.
 use numbers::refusal::Answer;
 use numbers::refusal::Refusal;
 use numbers::refusal::Verdict;
 use numbers::refusal::refuse;
 ghost use mathlib.Core.Path.{_≡_};
-ghost use Prim.Native.Nat.{ℕ, _<_};
+ghost use Prim.Native.Nat.{_<_};
 ghost use lib.ListN.{length};
 ghost use Rattle.numbers.specs.Words.{over};
 ghost use Rattle.numbers.specs.Refusals.{outcome, result, written};
@@ -13,9 +13,9 @@ ghost use Rattle.sheet.specs.Layout.{count};
 ghost use Rattle.sheet.specs.Sheet.{Sound, soundTest, readVerdict, readFactor, factorOutcome, readPart};
 ghost use Rattle.sheet.specs.Reading.{factorPart, timesVerdict, timesSize, timesWords};
 
-pub mod kernel; // powers of Y − c, for callers that have judged
+pub mod kernel; // the factors worked out, for callers that have judged
 pub mod layout; // where the words stand
-mod soundness; // the test of a sheet
+pub mod soundness; // the test of a sheet
 
 // A factor's root at X = 0 and its power, which is its degree.
 pub struct Factor {

@@ -1,74 +1,72 @@
--- `sheet::extend` meets its contract: a sound sheet's links are worked to w terms, and the terms are set.
+-- `lift::extend` meets its contract.
 -- Assumes nothing.
-use mathlib.Core.Path.{_≡_, refl, sym, _∙_}
+use mathlib.Core.Path.{sym}
 use native.Mathlib.Omega.{arith}
+use borrow.Author.Tests.{not-true, not-false}
+use lib.Seq.{length-take-le}
+use Rattle.numbers.proofs.RefusalsLaws.{leave-refused}
+use Rattle.sheet.proofs.StagesLaws.{rows-room}
+use Rattle.sheet.proofs.SoundStagesLaws.{sound-front}
+use Rattle.lift.proofs.ExtendTotalLaws.{extend-spoiled}
 use borrow.Author.Needs.{needs}
-use Rattle.pair.proofs.AnswerLaws.{leave-refused, leave-done}
-use Rattle.sheet.proofs.HoldsLaws.{sound-long}
-use Rattle.lift.proofs.ExtendTotalLaws.{extend-able}
-use Rattle.lift.proofs.ChainedLaws.{chained-done}
 use Rattle.lift.proofs.extend.Statement.{statement}
 use Rattle.lift.proofs.extend.Tie as tie
 
-check-extend-requires : tie.Need-check-extend-requires
-check-extend-requires c κs = search needs
-
-enum-known-r : tie.Need-enum-known-r
-enum-known-r c = search needs
+front-fits-requires : tie.Need-front-fits-requires
+front-fits-requires c κs = search needs
 
 same-length : tie.Need-same-length
 same-length c = search needs
 
 returns : tie.Need-returns
 returns c =
-    let r = leave-refused _ _ _ _ (sym (c .before .before .before .check-extend .ensures) ∙ c .before .r .given .1) in
+    let r = leave-refused _ _ _ (c .before .before .before .before .args .sheet .now) (extend-spoiled (c .before .before .before .before .args .sheet .now) (c .before .before .before .before .args .w) (λ h. c .before .front-fits .ensures .no (not-true (c .before .front-fits .result) (c .if1 .taken)) (sound-front (c .before .before .before .before .args .sheet .now) h))) in
     record { answers = r .0; leaves = r .1 }
 
-enum-told : tie.Need-enum-told
-enum-told c = search needs
+slice-read-size : tie.Need-slice-read-size
+slice-read-size c = let h = c .before .before .front-fits .ensures .yes (not-false (c .before .before .front-fits .result) (c .before .if1 .left)) in omega (arith, h .shape .header .roomy)
 
-slice-read-from : tie.Need-slice-read-from
-slice-read-from c =
-    let h = extend-able (c .before .before .before .before .before .before .args .sheet .now) (c .before .before .before .before .before .before .args .w) (sym (c .before .before .before .check-extend .ensures) ∙ c .before .enum-told .given .1) in
-    let z = sound-long (c .before .before .before .before .before .before .args .sheet .now) (h .sound) in
-    omega arith
+cast-size : tie.Need-cast-size
+cast-size c = let h = c .before .before .front-fits .ensures .yes (not-false (c .before .before .front-fits .result) (c .before .if1 .left)) in omega (arith, h .shape .header .degree-high)
 
-cast-from : tie.Need-cast-from
-cast-from c = omega (arith, c .slice-known2 .given 3)
+slice-read-size-2 : tie.Need-slice-read-size-2
+slice-read-size-2 c = let h = c .before .before .before .front-fits .ensures .yes (not-false (c .before .before .before .front-fits .result) (c .before .before .if1 .left)) in omega (arith, h .shape .header .roomy)
 
-lift-links-requires : tie.Need-lift-links-requires
-lift-links-requires c κs =
-    let h = extend-able (c .before .before .before .before .before .before .before .args .sheet .now) (c .before .before .before .before .before .before .before .args .w) (sym (c .before .before .before .before .check-extend .ensures) ∙ c .before .before .enum-told .given .1) in
-    (h .sound, refl, h .low, h .high)
+cast-size-2 : tie.Need-cast-size-2
+cast-size-2 c = let h = c .before .before .before .front-fits .ensures .yes (not-false (c .before .before .before .front-fits .result) (c .before .before .if1 .left)) in omega (arith, h .shape .header .width-high)
 
-slice-write-sheet : tie.Need-slice-write-sheet
-slice-write-sheet c =
-    let h = extend-able (c .before .before .before .before .before .before .before .before .before .before .args .sheet .now) (c .before .before .before .before .before .before .before .before .before .before .args .w) (sym (c .before .before .before .before .before .before .before .check-extend .ensures) ∙ c .before .before .before .before .before .enum-told .given .1) in
-    let z = sound-long (c .before .before .before .before .before .before .before .before .before .before .args .sheet .now) (h .sound) in
-    omega (arith, c .before .before .lift-links .ensures .long)
+mul-size : tie.Need-mul-size
+mul-size c = let h = c .before .before .before .front-fits .ensures .yes (not-false (c .before .before .before .front-fits .result) (c .before .before .if1 .left)) in omega (arith, rows-room (c .before .before .before .before .before .before .args .sheet .now) (h .shape .header))
+
+array-borrow-prefix-rows : tie.Need-array-borrow-prefix-rows
+array-borrow-prefix-rows c = let h = c .before .before .before .before .front-fits .ensures .yes (not-false (c .before .before .before .before .front-fits .result) (c .before .before .before .if1 .left)) in omega (arith, rows-room (c .before .before .before .before .before .before .before .args .sheet .now) (h .shape .header))
+
+slice-aggregate-extend-with : tie.Need-slice-aggregate-extend-with
+slice-aggregate-extend-with c = let h = c .before .before .before .before .before .front-fits .ensures .yes (not-false (c .before .before .before .before .before .front-fits .result) (c .before .before .before .before .if1 .left)) in sym (length-take-le _ _ (omega (arith, rows-room (c .before .before .before .before .before .before .before .before .args .sheet .now) (h .shape .header))))
+
+extend-with-requires : tie.Need-extend-with-requires
+extend-with-requires c κs = let h = c .before .before .before .before .before .front-fits .ensures .yes (not-false (c .before .before .before .before .before .front-fits .result) (c .before .before .before .before .if1 .left)) in (h, length-take-le _ _ (omega (arith, rows-room (c .before .before .before .before .before .before .before .before .args .sheet .now) (h .shape .header))))
 
 same-length-2 : tie.Need-same-length-2
 same-length-2 c = search needs
 
 returns-2 : tie.Need-returns-2
-returns-2 c =
-    let m = sym (c .before .before .before .before .before .before .before .check-extend .ensures) ∙ c .before .before .before .before .before .enum-told .given .1 in
-    let h = extend-able (c .before .before .before .before .before .before .before .before .before .before .args .sheet .now) (c .before .before .before .before .before .before .before .before .before .before .args .w) m in
-    let r = leave-done _ _ _ (c .before .before .before .before .before .before .before .before .before .before .args .sheet .now) _ m refl (chained-done (c .before .before .before .before .before .before .before .before .before .before .args .sheet .now) (h .sound) (c .before .before .before .before .before .before .before .before .before .before .args .w) _ (h .low) (h .high) (c .before .before .lift-links .ensures)) in
-    record { answers = r .0; leaves = r .1 }
+returns-2 c = search needs
 
 pub extend-spec : {M : Type 1} → statement M
 extend-spec =
     tie.close
     (tie.spec
-    check-extend-requires
-    enum-known-r
+    front-fits-requires
     same-length
     returns
-    enum-told
-    slice-read-from
-    cast-from
-    lift-links-requires
-    slice-write-sheet
+    slice-read-size
+    cast-size
+    slice-read-size-2
+    cast-size-2
+    mul-size
+    array-borrow-prefix-rows
+    slice-aggregate-extend-with
+    extend-with-requires
     same-length-2
     returns-2)

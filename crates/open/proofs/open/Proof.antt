@@ -1,14 +1,10 @@
 -- `open::open` meets its contract: the checks, then the words of a fresh sheet.
 -- Assumes nothing.
-use mathlib.Core.Path.{_≡_, sym, ap, subst, _∙_}
-use mathlib.Core.Option.{some}
+use mathlib.Core.Path.{sym, ap}
 use native.Mathlib.Omega.{arith}
-use lib.ListN.{length, take}
-use lib.Seq.{length-take-le}
 use Rattle.numbers.specs.Refusals.{outcome}
 use Rattle.sheet.specs.Sheet.{Given}
-use Rattle.open.specs.Open.{Opened}
-use Rattle.open.specs.Opening.{CheckedOpen}
+use Rattle.open.proofs.OpenChecksLaws.{listed-small}
 use Rattle.open.proofs.OpenDoneLaws.{open-refused, open-listed, open-room, write-ready, write-done}
 use borrow.Author.Needs.{needs}
 use Rattle.open.proofs.open.Statement.{statement}
@@ -29,9 +25,7 @@ array-share-prefix-powers c =
     let g : Given = record { p = a .p; D = a .d; N = a .n; rows = a .rows .now; roots = a .roots .now } in
     let q = ap outcome (c .before .answer .given .1) in
     let h = c .before .before .before .before .check-open .ensures in
-    let l = open-listed g (a .out .now) _ _ _ q h in
-    let k = l .count-high in
-    let d = l .shape .degree-high in
+    let z = listed-small g (open-listed g (a .out .now) _ _ _ q h) in
     let n = open-room g (a .out .now) _ _ _ q h in
     omega arith
 

@@ -3,7 +3,6 @@
 use mathlib.Core.Path.{_≡_, sym, subst}
 use Prim.Native.Nat.{_≤_, _-_}
 use native.Mathlib.Omega.{arith}
-use lib.ListN.{length}
 use lib.Seq.{length-take-le}
 use Rattle.rows.proofs.RowsLaws.{zeros}
 use Rattle.pair.specs.Pair.{PairDone}

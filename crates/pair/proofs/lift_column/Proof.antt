@@ -1,12 +1,8 @@
 -- `pair::lift_column` meets its contract: the column is gathered and solved at the front of an array of its own.
 -- Assumes nothing.
-use mathlib.Core.Path.{_≡_, refl, sym, ap, _∙_}
-use Prim.Native.Nat.{_+_, _*_, _≤_}
-use native.Mathlib.Nat.{mul-le-mul}
+use mathlib.Core.Path.{sym}
 use native.Mathlib.Omega.{arith}
-use lib.ListN.{length}
 use lib.Seq.{length-take-le}
-use Rattle.algebra.specs.Fp.{Prime}
 use Rattle.rows.proofs.RowsLaws.{zeros}
 use Rattle.pair.proofs.LiftLaws.{column-long, column-below, column-fits, solve-fits, solution-long, solution-fits, store-fits, column-done}
 use borrow.Author.Needs.{needs}

@@ -5,7 +5,7 @@ use Prim.Native.Nat.{ℕ, _≤_, _<_, _-_, _*_}
 use native.Mathlib.Omega.{arith}
 use borrow.Author.Count.{below-more}
 use Rattle.numbers.specs.Words.{word}
-use Rattle.pair.proofs.ColumnLaws.{row-before}
+use Rattle.columns.proofs.ColumnLaws.{row-before}
 use Rattle.rows.proofs.RowsLaws.{rows-small}
 use Rattle.pair.proofs.TestLaws.{order-is}
 use borrow.Author.Needs.{needs}

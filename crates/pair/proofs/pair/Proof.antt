@@ -1,12 +1,11 @@
 -- `pair::pair` meets its contract: the pair to one term, and then lifted.
 -- Assumes nothing.
-use mathlib.Core.Path.{_≡_, sym, _∙_}
+use mathlib.Core.Path.{sym, _∙_}
 use native.Mathlib.Omega.{arith}
 use lib.ListN.{length}
-use Rattle.numbers.specs.Refusals.{judge}
-use Rattle.numbers.specs.declared.refusal.Verdict.the-variants.{Pass}
 use Rattle.pair.proofs.LiftLaws.{done-step}
-use Rattle.pair.proofs.AnswerLaws.{leave-refused, leave-done, pair-pass, lifting-of, start-done}
+use Rattle.numbers.proofs.RefusalsLaws.{leave-refused, leave-done}
+use Rattle.pair.proofs.AnswerLaws.{pair-pass, lifting-of, start-done}
 use borrow.Author.Needs.{needs}
 use Rattle.pair.proofs.pair.Statement.{statement}
 use Rattle.pair.proofs.pair.Tie as tie

@@ -1,11 +1,10 @@
 -- `pair::pair_continue` meets its contract: what is there is the pair to h terms, and is lifted on.
 -- Assumes nothing.
-use mathlib.Core.Path.{_≡_, sym, _∙_}
+use mathlib.Core.Path.{sym, _∙_}
 use native.Mathlib.Omega.{arith}
 use lib.ListN.{length}
-use Rattle.numbers.specs.Refusals.{judge}
-use Rattle.numbers.specs.declared.refusal.Verdict.the-variants.{Pass}
-use Rattle.pair.proofs.AnswerLaws.{leave-refused, leave-done, continue-pass, lifting-of}
+use Rattle.numbers.proofs.RefusalsLaws.{leave-refused, leave-done}
+use Rattle.pair.proofs.AnswerLaws.{continue-pass, lifting-of}
 use borrow.Author.Needs.{needs}
 use Rattle.pair.proofs.pair_continue.Statement.{statement}
 use Rattle.pair.proofs.pair_continue.Tie as tie

@@ -8,9 +8,9 @@ use borrow.Author.Count.{below-more}
 use borrow.Author.Tests.{not-true, not-false}
 use lib.Dec.{eqb}
 use Rattle.numbers.specs.Words.{allTo}
-use Rattle.rows.specs.Rows.{mul}
+use Rattle.rows.specs.Rows.{mul, monic}
 use Rattle.rows.proofs.RowsLaws.{row-fits, rows-small, length-part}
-use Rattle.pair.specs.Pair.{monic, lowRows, highRows, given}
+use Rattle.pair.specs.Pair.{lowRows, highRows, given}
 use Rattle.pair.proofs.PartLaws.{seam-fits, length-low, length-high, low-below, high-below, row-test, products-fail, products-pass}
 use borrow.Author.Needs.{needs}
 use Rattle.pair.proofs.same_products.Statement.{statement}

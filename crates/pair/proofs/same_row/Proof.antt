@@ -9,8 +9,7 @@ use borrow.Author.Tests.{eq-eqb, ne-eqb}
 use lib.Dec.{eqb}
 use Rattle.numbers.specs.Words.{word}
 use Rattle.numbers.proofs.TestsLaws.{allTo-false, at-allTo}
-use Rattle.rows.specs.Rows.{rowsOf, mul}
-use Rattle.pair.specs.Pair.{monic}
+use Rattle.rows.specs.Rows.{rowsOf, mul, monic}
 use Rattle.pair.proofs.ProductLaws.{row-turn, row-small, leading-small}
 use borrow.Author.Needs.{needs}
 use Rattle.pair.proofs.same_row.Statement.{statement}

@@ -1,7 +1,6 @@
 -- `sheet::factor_rows` meets its contract.
 -- Assumes nothing.
 use mathlib.Core.Path.{_≡_, _∙_, sym, refl}
-use Prim.Native.Nat.{ℕ}
 use Rattle.sheet.specs.Sheet.{readVerdict}
 use Rattle.numbers.specs.declared.refusal.Verdict.the-variants.{Pass, Refuse}
 use Rattle.sheet.proofs.ReadingLaws.{read-pass}

@@ -1,10 +1,8 @@
 -- `sheet::factor_times` meets its contract: what follows the two checks is the row product of the part.
 -- Assumes nothing.
-use mathlib.Core.Path.{_≡_, _∙_, sym, refl}
-use Prim.Native.Nat.{ℕ}
+use mathlib.Core.Path.{_∙_, sym}
 use native.Mathlib.Omega.{arith}
 use Rattle.numbers.proofs.RefusalsLaws.{answer-refused}
-use Rattle.numbers.specs.declared.refusal.Verdict.the-variants.{Pass, Refuse}
 use Rattle.sheet.proofs.ReadingLaws.{read-pass, sheet-entries, power-low, times-refused, times-done}
 use borrow.Author.Needs.{needs}
 use Rattle.sheet.proofs.factor_times.Statement.{statement}

@@ -1,9 +1,9 @@
 -- `sheet::part_of` meets its contract: what a sound sheet says of its header and powers keeps every number small and the part within.
 -- Assumes nothing.
-use mathlib.Core.Path.{_≡_, _∙_, sym, ap, ap₂, refl}
-use Prim.Native.Nat.{ℕ, _+_, _*_}
+use mathlib.Core.Path.{ap, ap₂, refl}
+use Prim.Native.Nat.{_+_, _*_}
 use native.Mathlib.Omega.{arith}
-use Rattle.sheet.specs.Layout.{degree, width, count, power}
+use Rattle.sheet.specs.Layout.{width}
 use Rattle.sheet.proofs.ReadingLaws.{sheet-entries, sheet-count, sheet-power, part-within, part-small, part-is}
 use borrow.Author.Needs.{needs}
 use Rattle.sheet.proofs.part_of.Statement.{statement}

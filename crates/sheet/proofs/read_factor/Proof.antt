@@ -1,10 +1,8 @@
 -- `sheet::read_factor` meets its contract.
 -- Assumes nothing.
 use mathlib.Core.Path.{_≡_, _∙_, sym, refl}
-use Prim.Native.Nat.{ℕ}
 use native.Mathlib.Omega.{arith}
-use Rattle.sheet.specs.Sheet.{readVerdict, readFactor, factorOutcome}
-use Rattle.numbers.specs.Refusals.{result}
+use Rattle.sheet.specs.Sheet.{readVerdict}
 use Rattle.numbers.specs.declared.refusal.Verdict.the-variants.{Pass, Refuse}
 use Rattle.sheet.proofs.ReadingLaws.{read-pass, sheet-entries}
 use borrow.Author.Needs.{needs}

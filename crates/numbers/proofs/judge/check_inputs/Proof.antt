@@ -1,13 +1,11 @@
 -- `numbers::judge::check_inputs` meets its contract: at each `return` the tests that led there say which row it is.
 -- Assumes nothing.
 use mathlib.Core.Path.{_≡_, _∙_, sym}
-use mathlib.Core.List.{_++_}
-use Prim.Native.Nat.{_+_, _*_, _≤_}
+use Prim.Native.Nat.{_*_, _≤_}
 use native.Mathlib.Nat.{mul-le-mul}
 use native.Mathlib.Omega.{arith}
 use borrow.Author.Tests.{lt-ltb, le-ltb, eq-eqb, ne-eqb}
 use lib.ListN.{length, length-append}
-use Rattle.numbers.specs.Words.{firstLarge}
 use Rattle.numbers.specs.Refusals.{judge, modulusChecks, shapeChecks}
 use Rattle.numbers.specs.declared.refusal.Verdict.the-variants.{Pass}
 use Rattle.numbers.proofs.RefusalsLaws.{after-pass, after-refuse}

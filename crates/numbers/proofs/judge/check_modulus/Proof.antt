@@ -3,7 +3,6 @@
 use mathlib.Core.Path.{_∙_, sym}
 use borrow.Author.Tests.{lt-ltb, le-ltb}
 use native.Mathlib.Omega.{arith}
-use Rattle.numbers.specs.Divisor.{leastDivisor}
 use Rattle.numbers.specs.Refusals.{judge, largestModulus}
 use borrow.Author.Needs.{needs}
 use Rattle.numbers.proofs.judge.check_modulus.Statement.{statement}

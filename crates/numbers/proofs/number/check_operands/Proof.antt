@@ -1,7 +1,6 @@
 -- `numbers::number::check_operands` meets its contract.
 -- Assumes nothing.
 use mathlib.Core.Path.{_≡_, _∙_, sym}
-use native.Mathlib.Omega.{arith}
 use borrow.Author.Tests.{lt-ltb, le-ltb}
 use Rattle.numbers.specs.Words.{firstLarge}
 use Rattle.numbers.specs.Refusals.{judge, modulusChecks, check, unreduced}

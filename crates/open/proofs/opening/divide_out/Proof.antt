@@ -1,7 +1,7 @@
 -- `sheet::opening::divide_out` meets its contract. The loop's invariant: Y − c is divided out a − at times.
 -- Assumes nothing.
 use mathlib.Core.Path.{_≡_, _∙_, sym}
-use Prim.Native.Nat.{ℕ, _≤_, _<_, _-_, _+_}
+use Prim.Native.Nat.{_-_}
 use native.Mathlib.Omega.{arith}
 use lib.ListN.{length}
 use Rattle.numbers.proofs.WordsLaws.{length-from, from-below}

@@ -1,12 +1,10 @@
 -- `sheet::opening::find_powers` meets its contract. The loop's invariant is `Finding`.
 -- Assumes nothing.
-use mathlib.Core.Path.{_≡_, _∙_, sym, ap, refl}
-use Prim.Native.Nat.{ℕ, suc, _≤_, _<_, _-_, _+_}
+use mathlib.Core.Path.{_≡_, _∙_, ap, refl}
+use Prim.Native.Nat.{_≤_, _-_, _+_}
 use native.Mathlib.Omega.{arith}
 use lib.Dec.{eqb}
 use lib.ListN.{length, length-set}
-use Rattle.algebra.specs.Fp.{Prime}
-use Rattle.numbers.specs.Words.{word, AllBelow}
 use Rattle.open.proofs.FindingLaws.{Searching, searching-none, searching-step, searching-stops, searching-ends, searching-long, divided-long}
 use borrow.Author.Needs.{needs}
 use Rattle.open.proofs.opening.find_powers.Statement.{statement}

@@ -1,12 +1,12 @@
 -- `sheet::opening::is_unit` meets its contract. The loop's invariant: the words before t are those of 1, 0, 0, ..
 -- Assumes nothing.
 use mathlib.Core.Path.{_≡_, _∙_, sym}
-use Prim.Native.Nat.{ℕ, zero, suc, _≤_, _<_, _-_}
+use Prim.Native.Nat.{ℕ, _≤_, _<_, _-_}
 use native.Mathlib.Omega.{arith}
 use lib.ListN.{length}
 use borrow.Author.Count.{below-more}
 use Rattle.numbers.specs.Words.{word}
-use Rattle.pair.specs.Pair.{unit}
+use Rattle.rows.specs.Rows.{unit}
 use Rattle.open.proofs.OpenChecksLaws.{unit-fails, unit-passes, unit-later, one-first}
 use borrow.Author.Needs.{needs}
 use Rattle.open.proofs.opening.is_unit.Statement.{statement}

@@ -1,9 +1,8 @@
 -- `sheet::opening::powers_of` meets its contract.
 -- Assumes nothing.
-use mathlib.Core.Path.{_≡_, sym}
-use Prim.Native.Nat.{ℕ, _≤_, _*_, _+_}
+use mathlib.Core.Path.{sym}
+use Prim.Native.Nat.{_+_}
 use native.Mathlib.Omega.{arith}
-use lib.ListN.{length, take}
 use lib.Seq.{length-take-le}
 use Rattle.rows.proofs.RowsLaws.{zeros}
 use Rattle.sheet.specs.Sheet.{Given}

@@ -1,6 +1,5 @@
 -- `sheet::opening::rises` meets its contract. The loop's invariant: the words before word i rise.
 -- Assumes nothing.
-use mathlib.Core.Path.{_≡_}
 use Prim.Native.Nat.{ℕ, suc, _≤_, _<_, _-_}
 use native.Mathlib.Omega.{arith}
 use lib.ListN.{length}

@@ -1,13 +1,13 @@
 -- `sheet::opening::value` meets its contract. The loop's invariant: the sum is what Horner's scheme has at j.
 -- Assumes nothing.
-use mathlib.Core.Path.{_≡_, _∙_, sym, ap}
-use Prim.Native.Nat.{ℕ, suc, _≤_, _<_, _-_, _+_, _*_, _%_}
+use mathlib.Core.Path.{_≡_, _∙_}
+use Prim.Native.Nat.{_≤_, _<_, _-_, _+_, _*_}
 use native.Mathlib.Nat.{mod-lt}
 use native.Mathlib.Omega.{arith}
 use lib.ListN.{length}
 use Rattle.numbers.specs.Words.{word}
-use Rattle.pair.specs.Column.{hornerWord}
-use Rattle.pair.proofs.ColumnLaws.{product-fits}
+use Rattle.columns.specs.Column.{hornerWord}
+use Rattle.columns.proofs.ColumnLaws.{product-fits}
 use Rattle.open.proofs.PowersLaws.{value-turn, value-starts, value-whole}
 use borrow.Author.Needs.{needs}
 use Rattle.open.proofs.opening.value.Statement.{statement}

@@ -8,8 +8,8 @@ use Rattle.numbers.specs.Words.{word, tabulate}
 use Rattle.numbers.proofs.WordsLaws.{Writing, writing-none, over-whole}
 use Rattle.rows.specs.Rows.{table}
 use Rattle.rows.proofs.RowsLaws.{row-fits, rows-small, length-part, length-table, writing-row, writing-rows}
-use Rattle.pair.specs.Lifting.{firstOnly}
-use Rattle.sheet.specs.Factors.{flat}
+use Rattle.columns.specs.Column.{firstOnly}
+use Rattle.split.specs.Factors.{flat}
 use Rattle.open.proofs.WritingLaws.{flat-row}
 use borrow.Author.Needs.{needs}
 use Rattle.open.proofs.writing.spread.Statement.{statement}

@@ -26,15 +26,15 @@ root-power-requires c κs =
 
 array-share-prefix-line : tie.Need-array-share-prefix-line
 array-share-prefix-line c =
-    let z = line-long (c .before .before .before .before .args .p) (c .before .before .before .before .args .c) (c .before .before .before .before .args .m) _ (omega arith) (c .before .root-power .ensures) in
+    let z = line-long (c .before .before .before .before .args .p) _ (c .before .before .before .before .args .m) _ (omega arith) (c .before .root-power .ensures) in
     omega arith
 
 slice-aggregate-spread : tie.Need-slice-aggregate-spread
-slice-aggregate-spread c = sym (line-lower (c .before .before .before .before .before .args .p) (c .before .before .before .before .before .args .c) (c .before .before .before .before .before .args .m) _ (omega arith) (c .before .before .root-power .ensures))
+slice-aggregate-spread c = sym (line-lower (c .before .before .before .before .before .args .p) _ (c .before .before .before .before .before .args .m) _ (omega arith) (c .before .before .root-power .ensures))
 
 spread-requires : tie.Need-spread-requires
 spread-requires c κs =
-    let z = line-lower (c .before .before .before .before .before .before .args .p) (c .before .before .before .before .before .before .args .c) (c .before .before .before .before .before .before .args .m) _ (omega arith) (c .before .before .before .root-power .ensures) in
+    let z = line-lower (c .before .before .before .before .before .before .args .p) _ (c .before .before .before .before .before .before .args .m) _ (omega arith) (c .before .before .before .root-power .ensures) in
     (omega arith, omega arith, omega arith, c .before .before .before .before .before .before .pre .6 ∙ ap (λ (x : ℕ). x * c .before .before .before .before .before .before .args .n) (sym z))
 
 same-length : tie.Need-same-length

@@ -4,7 +4,6 @@ use mathlib.Core.Path.{_∙_}
 use Prim.Native.Nat.{_+_}
 use native.Mathlib.Omega.{arith}
 use Rattle.rows.proofs.RowsLaws.{rows-small}
-use Rattle.open.proofs.SizeLaws.{cofactors-small}
 use Rattle.open.proofs.WritingLaws.{header-words}
 use borrow.Author.Needs.{needs}
 use Rattle.open.proofs.writing.write_header.Statement.{statement}
@@ -21,24 +20,16 @@ factors-from-requires c κs = search needs
 
 cast-factors : tie.Need-cast-factors
 cast-factors c =
+    let a = c .before .before .before .args in
     let e = c .factors-from .ensures in
-    let l = rows-small (c .before .before .before .args .d + 1) (c .before .before .before .args .n) (omega arith) (omega arith) in
+    let l = rows-small (a .d + 1) (a .n) (omega arith) (omega arith) in
     omega arith
 
-cofactors-from-requires : tie.Need-cofactors-from-requires
-cofactors-from-requires c κs = search needs
-
-cast-cofactors : tie.Need-cast-cofactors
-cast-cofactors c =
-    let e = c .cofactors-from .ensures in
-    let l = cofactors-small (c .before .before .before .before .args .d) (c .before .before .before .before .args .n) (omega arith) (omega arith) in
-    omega arith
+cast-end : tie.Need-cast-end
+cast-end c = search needs
 
 cast-t14 : tie.Need-cast-t14
 cast-t14 c = search needs
-
-cast-t15 : tie.Need-cast-t15
-cast-t15 c = search needs
 
 slice-aggregate-copy : tie.Need-slice-aggregate-copy
 slice-aggregate-copy c = search needs
@@ -50,7 +41,10 @@ same-length : tie.Need-same-length
 same-length c = search needs
 
 returns : tie.Need-returns
-returns c = c .before .before .copy .ensures ∙ header-words (c .before .before .before .before .before .before .before .before .before .args .p) (c .before .before .before .before .before .before .before .before .before .args .d) (c .before .before .before .before .before .before .before .before .before .args .n) (c .before .before .before .before .before .before .before .before .before .args .r) (c .before .before .before .before .before .before .before .before .before .args .total) _ _ _ (c .before .before .before .before .before .before .before .before .before .args .out .now) (c .before .before .before .before .before .before .before .polynomial-from .ensures) (c .before .before .before .before .before .before .factors-from .ensures) (c .before .before .before .before .before .cofactors-from .ensures)
+returns c =
+    let a = c .before .before .before .before .before .before .before .before .args in
+    c .before .before .copy .ensures
+    ∙ header-words (a .p) (a .d) (a .n) (a .r) (a .total) _ _ (a .out .now) (c .before .before .before .before .before .before .polynomial-from .ensures) (c .before .before .before .before .before .factors-from .ensures)
 
 pub write-header-spec : {M : Type 1} → statement M
 write-header-spec =
@@ -60,10 +54,8 @@ write-header-spec =
     cast-polynomial
     factors-from-requires
     cast-factors
-    cofactors-from-requires
-    cast-cofactors
+    cast-end
     cast-t14
-    cast-t15
     slice-aggregate-copy
     copy-requires
     same-length

@@ -1,39 +1,54 @@
 -- `open::writing::write_sheet` meets its contract.
 -- Assumes nothing.
+use Prim.Native.Nat.{_≤_}
 use native.Mathlib.Omega.{arith}
+use lib.ListN.{length}
 use Rattle.sheet.specs.Sheet.{Given}
 use Rattle.open.specs.Writing.{FreshReady}
-use Rattle.open.proofs.SizeLaws.{cofactors-small}
-use Rattle.open.proofs.SheetWritingLaws.{count-small, degree-is, total-small, roots-part, rows-part, factors-part, cofactors-part, sheet-written, sheet-long}
+use Rattle.open.proofs.OpenCheckedLaws.{total-small}
+use Rattle.open.proofs.SheetWritingLaws.{count-small, Begun, degree-small, roots-part, factors-part, sheet-written}
 use borrow.Author.Needs.{needs}
 use Rattle.open.proofs.writing.write_sheet.Statement.{statement}
 use Rattle.open.proofs.writing.write_sheet.Tie as tie
 
+-- what is given
+abbrev given : tie.Start → Given
+given s = let a = s .args in record { p = a .p; D = a .d; N = a .n; rows = a .rows .now; roots = a .roots .now }
+
+ready : (s : tie.Start) → FreshReady (given s) (s .args .powers .now)
+ready s = s .pre .0
+
+few : (s : tie.Start) → length (s .args .roots .now) ≤ 32
+few s = count-small (given s) (s .args .powers .now) (ready s)
+
+-- what is known before the first word is written
+begun : (b : tie.After-factors-from) → let s = b .before .before .before .before .before .before in
+    Begun (given s) (s .args .powers .now) (s .args .out .now) (s .args .total) (b .before .polynomial-from .result) (b .factors-from .result)
+begun b =
+    let s = b .before .before .before .before .before .before in
+    record {
+      ready = ready s;
+      long-rows = s .pre .1;
+      same = s .pre .2;
+      total = s .pre .3;
+      fits = s .pre .4;
+      polynomial = b .before .polynomial-from .ensures;
+      factors = b .factors-from .ensures;
+    }
+
 polynomial-from-requires : tie.Need-polynomial-from-requires
-polynomial-from-requires c κs =
-    let g : Given = record { p = c .before .before .before .before .args .p; D = c .before .before .before .before .args .d; N = c .before .before .before .before .args .n; rows = c .before .before .before .before .args .rows .now; roots = c .before .before .before .before .args .roots .now } in
-    let h : FreshReady g (c .before .before .before .before .args .powers .now) = c .before .before .before .before .pre .0 in
-    count-small g (c .before .before .before .before .args .powers .now) h (c .before .before .before .before .pre .1) (c .before .before .before .before .pre .2)
+polynomial-from-requires c κs = few (c .before .before .before .before)
 
 factors-from-requires : tie.Need-factors-from-requires
-factors-from-requires c κs =
-    let g : Given = record { p = c .before .before .before .before .before .args .p; D = c .before .before .before .before .before .args .d; N = c .before .before .before .before .before .args .n; rows = c .before .before .before .before .before .args .rows .now; roots = c .before .before .before .before .before .args .roots .now } in
-    let h : FreshReady g (c .before .before .before .before .before .args .powers .now) = c .before .before .before .before .before .pre .0 in
-    (h .degree-high, h .width-high, count-small g (c .before .before .before .before .before .args .powers .now) h (c .before .before .before .before .before .pre .1) (c .before .before .before .before .before .pre .2))
-
-cofactors-from-requires : tie.Need-cofactors-from-requires
-cofactors-from-requires c κs =
-    let g : Given = record { p = c .before .before .before .before .before .before .args .p; D = c .before .before .before .before .before .before .args .d; N = c .before .before .before .before .before .before .args .n; rows = c .before .before .before .before .before .before .args .rows .now; roots = c .before .before .before .before .before .before .args .roots .now } in
-    let h : FreshReady g (c .before .before .before .before .before .before .args .powers .now) = c .before .before .before .before .before .before .pre .0 in
-    (h .degree-high, h .width-high, count-small g (c .before .before .before .before .before .before .args .powers .now) h (c .before .before .before .before .before .before .pre .1) (c .before .before .before .before .before .before .pre .2))
+factors-from-requires c κs = let h = ready (c .before .before .before .before .before) in (h .degree-high, h .width-high, few (c .before .before .before .before .before))
 
 write-header-requires : tie.Need-write-header-requires
 write-header-requires c κs =
-    let g : Given = record { p = c .before .before .before .before .before .before .before .before .args .p; D = c .before .before .before .before .before .before .before .before .args .d; N = c .before .before .before .before .before .before .before .before .args .n; rows = c .before .before .before .before .before .before .before .before .args .rows .now; roots = c .before .before .before .before .before .before .before .before .args .roots .now } in
-    let h : FreshReady g (c .before .before .before .before .before .before .before .before .args .powers .now) = c .before .before .before .before .before .before .before .before .pre .0 in
-    let e = c .before .before .before .before .before .before .before .before .pre .3 in
-    let s = total-small g (c .before .before .before .before .before .before .before .before .args .powers .now) h (c .before .before .before .before .before .before .before .before .pre .1) (c .before .before .before .before .before .before .before .before .pre .2) in
-    (h .degree-high, h .width-high, count-small g (c .before .before .before .before .before .before .before .before .args .powers .now) h (c .before .before .before .before .before .before .before .before .pre .1) (c .before .before .before .before .before .before .before .before .pre .2), omega arith, omega arith)
+    let s = c .before .before .before .before .before .before .before in
+    let h = ready s in
+    let e = s .pre .3 in
+    let t = total-small (s .args .d) (s .args .n) (length (s .args .roots .now)) (h .degree-high) (h .width-high) (few s) in
+    (h .degree-high, h .width-high, few s, omega arith, omega arith)
 
 sub-write-roots : tie.Need-sub-write-roots
 sub-write-roots c = search needs
@@ -45,10 +60,7 @@ part-write-roots-end : tie.Need-part-write-roots-end
 part-write-roots-end c = search needs
 
 write-roots-requires : tie.Need-write-roots-requires
-write-roots-requires c κs =
-    let g : Given = record { p = c .before .before .before .before .before .before .before .before .before .before .before .before .args .p; D = c .before .before .before .before .before .before .before .before .before .before .before .before .args .d; N = c .before .before .before .before .before .before .before .before .before .before .before .before .args .n; rows = c .before .before .before .before .before .before .before .before .before .before .before .before .args .rows .now; roots = c .before .before .before .before .before .before .before .before .before .before .before .before .args .roots .now } in
-    let h : FreshReady g (c .before .before .before .before .before .before .before .before .before .before .before .before .args .powers .now) = c .before .before .before .before .before .before .before .before .before .before .before .before .pre .0 in
-    (c .before .before .before .before .before .before .before .before .before .before .before .before .pre .2, count-small g (c .before .before .before .before .before .before .before .before .before .before .before .before .args .powers .now) h (c .before .before .before .before .before .before .before .before .before .before .before .before .pre .1) (c .before .before .before .before .before .before .before .before .before .before .before .before .pre .2), roots-part g (c .before .before .before .before .before .before .before .before .before .before .before .before .args .powers .now) h (c .before .before .before .before .before .before .before .before .before .before .before .before .pre .1) (c .before .before .before .before .before .before .before .before .before .before .before .before .pre .2) (c .before .before .before .before .before .before .before .before .before .before .before .before .args .out .now) (c .before .before .before .before .before .before .before .before .before .before .before .before .args .total) (c .before .before .before .before .before .before .before .before .before .before .before .before .pre .3) (c .before .before .before .before .before .before .before .before .before .before .before .before .pre .4) _ _ _ (c .before .before .before .before .before .before .before .polynomial-from .ensures) (c .before .before .before .before .before .before .factors-from .ensures) (c .before .before .before .before .before .cofactors-from .ensures) _ (c .before .before .before .write-header .ensures))
+write-roots-requires c κs = let s = c .before .before .before .before .before .before .before .before .before .before .before in (s .pre .2, few s, roots-part (begun (c .before .before .before .before .before)) _ (c .before .before .before .write-header .ensures))
 
 mul-copy : tie.Need-mul-copy
 mul-copy c = search needs
@@ -63,11 +75,7 @@ part-copy-end : tie.Need-part-copy-end
 part-copy-end c = search needs
 
 copy-requires : tie.Need-copy-requires
-copy-requires c κs =
-    let g : Given = record { p = c .before .before .before .before .before .before .before .before .before .before .before .before .before .before .before .before .args .p; D = c .before .before .before .before .before .before .before .before .before .before .before .before .before .before .before .before .args .d; N = c .before .before .before .before .before .before .before .before .before .before .before .before .before .before .before .before .args .n; rows = c .before .before .before .before .before .before .before .before .before .before .before .before .before .before .before .before .args .rows .now; roots = c .before .before .before .before .before .before .before .before .before .before .before .before .before .before .before .before .args .roots .now } in
-    let h : FreshReady g (c .before .before .before .before .before .before .before .before .before .before .before .before .before .before .before .before .args .powers .now) = c .before .before .before .before .before .before .before .before .before .before .before .before .before .before .before .before .pre .0 in
-    let z = rows-part g (c .before .before .before .before .before .before .before .before .before .before .before .before .before .before .before .before .args .powers .now) h (c .before .before .before .before .before .before .before .before .before .before .before .before .before .before .before .before .pre .1) (c .before .before .before .before .before .before .before .before .before .before .before .before .before .before .before .before .pre .2) (c .before .before .before .before .before .before .before .before .before .before .before .before .before .before .before .before .args .out .now) (c .before .before .before .before .before .before .before .before .before .before .before .before .before .before .before .before .args .total) (c .before .before .before .before .before .before .before .before .before .before .before .before .before .before .before .before .pre .3) (c .before .before .before .before .before .before .before .before .before .before .before .before .before .before .before .before .pre .4) _ _ _ (c .before .before .before .before .before .before .before .before .before .before .before .polynomial-from .ensures) (c .before .before .before .before .before .before .before .before .before .before .factors-from .ensures) (c .before .before .before .before .before .before .before .before .before .cofactors-from .ensures) _ (c .before .before .before .before .before .before .before .write-header .ensures) _ (c .before .before .before .write-roots .ensures) in
-    omega arith
+copy-requires c κs = search needs
 
 mul-write-factors : tie.Need-mul-write-factors
 mul-write-factors c = search needs
@@ -83,54 +91,18 @@ part-write-factors-end c = search needs
 
 write-factors-requires : tie.Need-write-factors-requires
 write-factors-requires c κs =
-    let g : Given = record { p = c .before .before .before .before .before .before .before .before .before .before .before .before .before .before .before .before .before .before .before .before .args .p; D = c .before .before .before .before .before .before .before .before .before .before .before .before .before .before .before .before .before .before .before .before .args .d; N = c .before .before .before .before .before .before .before .before .before .before .before .before .before .before .before .before .before .before .before .before .args .n; rows = c .before .before .before .before .before .before .before .before .before .before .before .before .before .before .before .before .before .before .before .before .args .rows .now; roots = c .before .before .before .before .before .before .before .before .before .before .before .before .before .before .before .before .before .before .before .before .args .roots .now } in
-    let h : FreshReady g (c .before .before .before .before .before .before .before .before .before .before .before .before .before .before .before .before .before .before .before .before .args .powers .now) = c .before .before .before .before .before .before .before .before .before .before .before .before .before .before .before .before .before .before .before .before .pre .0 in
-    let two = h .prime .two-le in
+    let s = c .before .before .before .before .before .before .before .before .before .before .before .before .before .before .before .before .before .before .before in
+    let h = ready s in
     let small = h .small in
-    let d = degree-is g (c .before .before .before .before .before .before .before .before .before .before .before .before .before .before .before .before .before .before .before .before .args .powers .now) h (c .before .before .before .before .before .before .before .before .before .before .before .before .before .before .before .before .before .before .before .before .pre .1) (c .before .before .before .before .before .before .before .before .before .before .before .before .before .before .before .before .before .before .before .before .pre .2) in
-    let high = h .degree-high in
-    (two, omega arith, h .splits .reduced, c .before .before .before .before .before .before .before .before .before .before .before .before .before .before .before .before .before .before .before .before .pre .2, omega arith, h .width-low, h .width-high, factors-part g (c .before .before .before .before .before .before .before .before .before .before .before .before .before .before .before .before .before .before .before .before .args .powers .now) h (c .before .before .before .before .before .before .before .before .before .before .before .before .before .before .before .before .before .before .before .before .pre .1) (c .before .before .before .before .before .before .before .before .before .before .before .before .before .before .before .before .before .before .before .before .pre .2) (c .before .before .before .before .before .before .before .before .before .before .before .before .before .before .before .before .before .before .before .before .args .out .now) (c .before .before .before .before .before .before .before .before .before .before .before .before .before .before .before .before .before .before .before .before .args .total) (c .before .before .before .before .before .before .before .before .before .before .before .before .before .before .before .before .before .before .before .before .pre .3) (c .before .before .before .before .before .before .before .before .before .before .before .before .before .before .before .before .before .before .before .before .pre .4) _ _ _ (c .before .before .before .before .before .before .before .before .before .before .before .before .before .before .before .polynomial-from .ensures) (c .before .before .before .before .before .before .before .before .before .before .before .before .before .before .factors-from .ensures) (c .before .before .before .before .before .before .before .before .before .before .before .before .before .cofactors-from .ensures) _ (c .before .before .before .before .before .before .before .before .before .before .before .write-header .ensures) _ (c .before .before .before .before .before .before .before .write-roots .ensures) _ (c .before .before .before .copy .ensures))
-
-mul-write-cofactors : tie.Need-mul-write-cofactors
-mul-write-cofactors c =
-    let g : Given = record { p = c .before .before .before .before .before .before .before .before .before .before .before .before .before .before .before .before .before .before .before .before .before .before .before .args .p; D = c .before .before .before .before .before .before .before .before .before .before .before .before .before .before .before .before .before .before .before .before .before .before .before .args .d; N = c .before .before .before .before .before .before .before .before .before .before .before .before .before .before .before .before .before .before .before .before .before .before .before .args .n; rows = c .before .before .before .before .before .before .before .before .before .before .before .before .before .before .before .before .before .before .before .before .before .before .before .args .rows .now; roots = c .before .before .before .before .before .before .before .before .before .before .before .before .before .before .before .before .before .before .before .before .before .before .before .args .roots .now } in
-    let h : FreshReady g (c .before .before .before .before .before .before .before .before .before .before .before .before .before .before .before .before .before .before .before .before .before .before .before .args .powers .now) = c .before .before .before .before .before .before .before .before .before .before .before .before .before .before .before .before .before .before .before .before .before .before .before .pre .0 in
-    let e = c .before .before .before .before .before .before .before .before .before .before .before .before .before .before .before .before .cofactors-from .ensures in
-    let r = count-small g (c .before .before .before .before .before .before .before .before .before .before .before .before .before .before .before .before .before .before .before .before .before .before .before .args .powers .now) h (c .before .before .before .before .before .before .before .before .before .before .before .before .before .before .before .before .before .before .before .before .before .before .before .pre .1) (c .before .before .before .before .before .before .before .before .before .before .before .before .before .before .before .before .before .before .before .before .before .before .before .pre .2) in
-    let z = cofactors-small (c .before .before .before .before .before .before .before .before .before .before .before .before .before .before .before .before .before .before .before .before .before .before .before .args .d) (c .before .before .before .before .before .before .before .before .before .before .before .before .before .before .before .before .before .before .before .before .before .before .before .args .n) (h .degree-high) (h .width-high) in
-    let s = total-small g (c .before .before .before .before .before .before .before .before .before .before .before .before .before .before .before .before .before .before .before .before .before .before .before .args .powers .now) h (c .before .before .before .before .before .before .before .before .before .before .before .before .before .before .before .before .before .before .before .before .before .before .before .pre .1) (c .before .before .before .before .before .before .before .before .before .before .before .before .before .before .before .before .before .before .before .before .before .before .before .pre .2) in
-    let t = c .before .before .before .before .before .before .before .before .before .before .before .before .before .before .before .before .before .before .before .before .before .before .before .pre .3 in
-    omega arith
-
-sub-write-cofactors : tie.Need-sub-write-cofactors
-sub-write-cofactors c = search needs
-
-part-write-cofactors-start : tie.Need-part-write-cofactors-start
-part-write-cofactors-start c = search needs
-
-part-write-cofactors-end : tie.Need-part-write-cofactors-end
-part-write-cofactors-end c = search needs
-
-write-cofactors-requires : tie.Need-write-cofactors-requires
-write-cofactors-requires c κs =
-    let g : Given = record { p = c .before .before .before .before .before .before .before .before .before .before .before .before .before .before .before .before .before .before .before .before .before .before .before .before .args .p; D = c .before .before .before .before .before .before .before .before .before .before .before .before .before .before .before .before .before .before .before .before .before .before .before .before .args .d; N = c .before .before .before .before .before .before .before .before .before .before .before .before .before .before .before .before .before .before .before .before .before .before .before .before .args .n; rows = c .before .before .before .before .before .before .before .before .before .before .before .before .before .before .before .before .before .before .before .before .before .before .before .before .args .rows .now; roots = c .before .before .before .before .before .before .before .before .before .before .before .before .before .before .before .before .before .before .before .before .before .before .before .before .args .roots .now } in
-    let h : FreshReady g (c .before .before .before .before .before .before .before .before .before .before .before .before .before .before .before .before .before .before .before .before .before .before .before .before .args .powers .now) = c .before .before .before .before .before .before .before .before .before .before .before .before .before .before .before .before .before .before .before .before .before .before .before .before .pre .0 in
-    let small = h .small in
-    let d = degree-is g (c .before .before .before .before .before .before .before .before .before .before .before .before .before .before .before .before .before .before .before .before .before .before .before .before .args .powers .now) h (c .before .before .before .before .before .before .before .before .before .before .before .before .before .before .before .before .before .before .before .before .before .before .before .before .pre .1) (c .before .before .before .before .before .before .before .before .before .before .before .before .before .before .before .before .before .before .before .before .before .before .before .before .pre .2) in
-    let high = h .degree-high in
-    (h .prime, omega arith, h .splits .reduced, c .before .before .before .before .before .before .before .before .before .before .before .before .before .before .before .before .before .before .before .before .before .before .before .before .pre .2, omega arith, h .width-low, h .width-high, cofactors-part g (c .before .before .before .before .before .before .before .before .before .before .before .before .before .before .before .before .before .before .before .before .before .before .before .before .args .powers .now) h (c .before .before .before .before .before .before .before .before .before .before .before .before .before .before .before .before .before .before .before .before .before .before .before .before .pre .1) (c .before .before .before .before .before .before .before .before .before .before .before .before .before .before .before .before .before .before .before .before .before .before .before .before .pre .2) (c .before .before .before .before .before .before .before .before .before .before .before .before .before .before .before .before .before .before .before .before .before .before .before .before .args .out .now) (c .before .before .before .before .before .before .before .before .before .before .before .before .before .before .before .before .before .before .before .before .before .before .before .before .args .total) (c .before .before .before .before .before .before .before .before .before .before .before .before .before .before .before .before .before .before .before .before .before .before .before .before .pre .3) (c .before .before .before .before .before .before .before .before .before .before .before .before .before .before .before .before .before .before .before .before .before .before .before .before .pre .4) _ _ _ (c .before .before .before .before .before .before .before .before .before .before .before .before .before .before .before .before .before .before .before .polynomial-from .ensures) (c .before .before .before .before .before .before .before .before .before .before .before .before .before .before .before .before .before .before .factors-from .ensures) (c .before .before .before .before .before .before .before .before .before .before .before .before .before .before .before .before .before .cofactors-from .ensures) _ (c .before .before .before .before .before .before .before .before .before .before .before .before .before .before .before .write-header .ensures) _ (c .before .before .before .before .before .before .before .before .before .before .before .write-roots .ensures) _ (c .before .before .before .before .before .before .before .copy .ensures) _ (c .before .before .before .write-factors .ensures))
+    let b = begun (c .before .before .before .before .before .before .before .before .before .before .before .before .before) in
+    (h .prime .two-le, omega arith, h .splits .reduced, s .pre .2, degree-small b, h .width-low, h .width-high, factors-part b _ (c .before .before .before .before .before .before .before .before .before .before .before .write-header .ensures) _ (c .before .before .before .before .before .before .before .write-roots .ensures) _ (c .before .before .before .copy .ensures))
 
 same-length : tie.Need-same-length
-same-length c =
-    let g : Given = record { p = c .before .before .before .before .before .before .before .before .before .before .before .before .before .before .before .before .before .before .before .before .before .before .before .before .before .before .before .args .p; D = c .before .before .before .before .before .before .before .before .before .before .before .before .before .before .before .before .before .before .before .before .before .before .before .before .before .before .before .args .d; N = c .before .before .before .before .before .before .before .before .before .before .before .before .before .before .before .before .before .before .before .before .before .before .before .before .before .before .before .args .n; rows = c .before .before .before .before .before .before .before .before .before .before .before .before .before .before .before .before .before .before .before .before .before .before .before .before .before .before .before .args .rows .now; roots = c .before .before .before .before .before .before .before .before .before .before .before .before .before .before .before .before .before .before .before .before .before .before .before .before .before .before .before .args .roots .now } in
-    let h : FreshReady g (c .before .before .before .before .before .before .before .before .before .before .before .before .before .before .before .before .before .before .before .before .before .before .before .before .before .before .before .args .powers .now) = c .before .before .before .before .before .before .before .before .before .before .before .before .before .before .before .before .before .before .before .before .before .before .before .before .before .before .before .pre .0 in
-    sheet-long g (c .before .before .before .before .before .before .before .before .before .before .before .before .before .before .before .before .before .before .before .before .before .before .before .before .before .before .before .args .powers .now) h (c .before .before .before .before .before .before .before .before .before .before .before .before .before .before .before .before .before .before .before .before .before .before .before .before .before .before .before .pre .1) (c .before .before .before .before .before .before .before .before .before .before .before .before .before .before .before .before .before .before .before .before .before .before .before .before .before .before .before .pre .2) (c .before .before .before .before .before .before .before .before .before .before .before .before .before .before .before .before .before .before .before .before .before .before .before .before .before .before .before .args .out .now) (c .before .before .before .before .before .before .before .before .before .before .before .before .before .before .before .before .before .before .before .before .before .before .before .before .before .before .before .args .total) (c .before .before .before .before .before .before .before .before .before .before .before .before .before .before .before .before .before .before .before .before .before .before .before .before .before .before .before .pre .3) (c .before .before .before .before .before .before .before .before .before .before .before .before .before .before .before .before .before .before .before .before .before .before .before .before .before .before .before .pre .4) _ _ _ (c .before .before .before .before .before .before .before .before .before .before .before .before .before .before .before .before .before .before .before .before .before .before .polynomial-from .ensures) (c .before .before .before .before .before .before .before .before .before .before .before .before .before .before .before .before .before .before .before .before .before .factors-from .ensures) (c .before .before .before .before .before .before .before .before .before .before .before .before .before .before .before .before .before .before .before .before .cofactors-from .ensures) _ (c .before .before .before .before .before .before .before .before .before .before .before .before .before .before .before .before .before .before .write-header .ensures) _ (c .before .before .before .before .before .before .before .before .before .before .before .before .before .before .write-roots .ensures) _ (c .before .before .before .before .before .before .before .before .before .before .copy .ensures) _ (c .before .before .before .before .before .before .write-factors .ensures) _ (c .before .before .write-cofactors .ensures)
+same-length c = search needs
 
 returns : tie.Need-returns
 returns c =
-    let g : Given = record { p = c .before .before .before .before .before .before .before .before .before .before .before .before .before .before .before .before .before .before .before .before .before .before .before .before .before .before .before .args .p; D = c .before .before .before .before .before .before .before .before .before .before .before .before .before .before .before .before .before .before .before .before .before .before .before .before .before .before .before .args .d; N = c .before .before .before .before .before .before .before .before .before .before .before .before .before .before .before .before .before .before .before .before .before .before .before .before .before .before .before .args .n; rows = c .before .before .before .before .before .before .before .before .before .before .before .before .before .before .before .before .before .before .before .before .before .before .before .before .before .before .before .args .rows .now; roots = c .before .before .before .before .before .before .before .before .before .before .before .before .before .before .before .before .before .before .before .before .before .before .before .before .before .before .before .args .roots .now } in
-    let h : FreshReady g (c .before .before .before .before .before .before .before .before .before .before .before .before .before .before .before .before .before .before .before .before .before .before .before .before .before .before .before .args .powers .now) = c .before .before .before .before .before .before .before .before .before .before .before .before .before .before .before .before .before .before .before .before .before .before .before .before .before .before .before .pre .0 in
-    sheet-written g (c .before .before .before .before .before .before .before .before .before .before .before .before .before .before .before .before .before .before .before .before .before .before .before .before .before .before .before .args .powers .now) h (c .before .before .before .before .before .before .before .before .before .before .before .before .before .before .before .before .before .before .before .before .before .before .before .before .before .before .before .pre .1) (c .before .before .before .before .before .before .before .before .before .before .before .before .before .before .before .before .before .before .before .before .before .before .before .before .before .before .before .pre .2) (c .before .before .before .before .before .before .before .before .before .before .before .before .before .before .before .before .before .before .before .before .before .before .before .before .before .before .before .args .out .now) (c .before .before .before .before .before .before .before .before .before .before .before .before .before .before .before .before .before .before .before .before .before .before .before .before .before .before .before .args .total) (c .before .before .before .before .before .before .before .before .before .before .before .before .before .before .before .before .before .before .before .before .before .before .before .before .before .before .before .pre .3) (c .before .before .before .before .before .before .before .before .before .before .before .before .before .before .before .before .before .before .before .before .before .before .before .before .before .before .before .pre .4) _ _ _ (c .before .before .before .before .before .before .before .before .before .before .before .before .before .before .before .before .before .before .before .before .before .before .polynomial-from .ensures) (c .before .before .before .before .before .before .before .before .before .before .before .before .before .before .before .before .before .before .before .before .before .factors-from .ensures) (c .before .before .before .before .before .before .before .before .before .before .before .before .before .before .before .before .before .before .before .before .cofactors-from .ensures) _ (c .before .before .before .before .before .before .before .before .before .before .before .before .before .before .before .before .before .before .write-header .ensures) _ (c .before .before .before .before .before .before .before .before .before .before .before .before .before .before .write-roots .ensures) _ (c .before .before .before .before .before .before .before .before .before .before .copy .ensures) _ (c .before .before .before .before .before .before .write-factors .ensures) _ (c .before .before .write-cofactors .ensures)
+    sheet-written (begun (c .before .before .before .before .before .before .before .before .before .before .before .before .before .before .before .before)) _ (c .before .before .before .before .before .before .before .before .before .before .before .before .before .before .write-header .ensures) _ (c .before .before .before .before .before .before .before .before .before .before .write-roots .ensures) _ (c .before .before .before .before .before .before .copy .ensures) _ (c .before .before .write-factors .ensures)
 
 pub write-sheet-spec : {M : Type 1} → statement M
 write-sheet-spec =
@@ -138,7 +110,6 @@ write-sheet-spec =
     (tie.spec
     polynomial-from-requires
     factors-from-requires
-    cofactors-from-requires
     write-header-requires
     sub-write-roots
     part-write-roots-start
@@ -154,10 +125,5 @@ write-sheet-spec =
     part-write-factors-start
     part-write-factors-end
     write-factors-requires
-    mul-write-cofactors
-    sub-write-cofactors
-    part-write-cofactors-start
-    part-write-cofactors-end
-    write-cofactors-requires
     same-length
     returns)

@@ -46,44 +46,44 @@ mul-a c = let l = inside c in record { fits = omega arith }
 add-e : tie.Need-add-e Inv-loop μ-loop
 add-e c = let l = inside c in record { fits = omega arith }
 
-mul-shift-row : tie.Need-mul-shift-row Inv-loop μ-loop
-mul-shift-row c = let l = inside c in record { fits = omega arith }
+mul-combine : tie.Need-mul-combine Inv-loop μ-loop
+mul-combine c = let l = inside c in record { fits = omega arith }
 
-sub-shift-row : tie.Need-sub-shift-row Inv-loop μ-loop
-sub-shift-row c = let l = inside c in omega arith
+sub-combine : tie.Need-sub-combine Inv-loop μ-loop
+sub-combine c = let l = inside c in omega arith
 
-part-shift-row-start : tie.Need-part-shift-row-start Inv-loop μ-loop
-part-shift-row-start c = let l = inside c in omega arith
+part-combine-start : tie.Need-part-combine-start Inv-loop μ-loop
+part-combine-start c = let l = inside c in omega arith
 
-part-shift-row-end : tie.Need-part-shift-row-end Inv-loop μ-loop
-part-shift-row-end c = let l = inside c in omega arith
+part-combine-end : tie.Need-part-combine-end Inv-loop μ-loop
+part-combine-end c = let l = inside c in omega arith
 
-mul-shift-row-2 : tie.Need-mul-shift-row-2 Inv-loop μ-loop
-mul-shift-row-2 c = let l = inside (c .before) in record { fits = omega arith }
+mul-combine-2 : tie.Need-mul-combine-2 Inv-loop μ-loop
+mul-combine-2 c = let l = inside (c .before) in record { fits = omega arith }
 
-sub-shift-row-2 : tie.Need-sub-shift-row-2 Inv-loop μ-loop
-sub-shift-row-2 c = let l = inside (c .before) in omega arith
+sub-combine-2 : tie.Need-sub-combine-2 Inv-loop μ-loop
+sub-combine-2 c = let l = inside (c .before) in omega arith
 
-part-shift-row-start-2 : tie.Need-part-shift-row-start-2 Inv-loop μ-loop
-part-shift-row-start-2 c = let l = inside (c .before .before) in omega arith
+part-combine-start-2 : tie.Need-part-combine-start-2 Inv-loop μ-loop
+part-combine-start-2 c = let l = inside (c .before .before) in omega arith
 
-part-shift-row-end-2 : tie.Need-part-shift-row-end-2 Inv-loop μ-loop
-part-shift-row-end-2 c = let l = inside (c .before .before) in omega arith
+part-combine-end-2 : tie.Need-part-combine-end-2 Inv-loop μ-loop
+part-combine-end-2 c = let l = inside (c .before .before) in omega arith
 
-mul-shift-row-3 : tie.Need-mul-shift-row-3 Inv-loop μ-loop
-mul-shift-row-3 c = let l = inside (c .before .before .before) in record { fits = omega arith }
+mul-combine-3 : tie.Need-mul-combine-3 Inv-loop μ-loop
+mul-combine-3 c = let l = inside (c .before .before .before) in record { fits = omega arith }
 
-sub-shift-row-3 : tie.Need-sub-shift-row-3 Inv-loop μ-loop
-sub-shift-row-3 c = let l = inside (c .before .before .before) in omega arith
+sub-combine-3 : tie.Need-sub-combine-3 Inv-loop μ-loop
+sub-combine-3 c = let l = inside (c .before .before .before) in omega arith
 
-part-shift-row-start-3 : tie.Need-part-shift-row-start-3 Inv-loop μ-loop
-part-shift-row-start-3 c = let l = inside (c .before .before .before) in omega arith
+part-combine-start-3 : tie.Need-part-combine-start-3 Inv-loop μ-loop
+part-combine-start-3 c = let l = inside (c .before .before .before) in omega arith
 
-part-shift-row-end-3 : tie.Need-part-shift-row-end-3 Inv-loop μ-loop
-part-shift-row-end-3 c = let l = inside (c .before .before .before) in omega arith
+part-combine-end-3 : tie.Need-part-combine-end-3 Inv-loop μ-loop
+part-combine-end-3 c = let l = inside (c .before .before .before) in omega arith
 
-shift-row-requires : tie.Need-shift-row-requires Inv-loop μ-loop
-shift-row-requires c κs =
+combine-requires : tie.Need-combine-requires Inv-loop μ-loop
+combine-requires c κs =
     let a = c .before .before .before .before .before .before .before .before .before .before .before .args in
     let l = inside (c .before .before .before .before) in
     let ws = c .before .before .before .before .before .loop .weights in
@@ -122,7 +122,7 @@ loop-again c =
     let l = inside (c .before .before .before .before .before .before .before .before .before .before) in
     let ws = c .before .before .before .before .before .before .before .before .before .before .before .loop .weights in
     let w = weights-next (a .p) (a .c) (a .rows) (c .before .before .before .before .before .before .before .before .before .before .before .loop .j) ws _ (omega arith) (c .before .before .before .before .before .before .before .before .before .before .before .loop .inv .2) (c .before .next-weights .ensures) in
-    let r = shift-row-is (a .p) (a .c) (a .f .now) (a .rows) (a .n) (c .before .before .before .before .before .before .before .before .before .before .before .loop .j) ws _ (omega arith) (omega arith) (c .before .before .before .before .before .before .before .before .before .before .before .loop .inv .2) (c .before .before .before .before .before .shift-row .ensures) in
+    let r = shift-row-is (a .p) (a .c) (a .f .now) (a .rows) (a .n) (c .before .before .before .before .before .before .before .before .before .before .before .loop .j) ws _ (omega arith) (omega arith) (c .before .before .before .before .before .before .before .before .before .before .before .loop .inv .2) (c .before .before .before .before .before .combine .ensures) in
     (omega arith, writing-row _ _ _ _ _ _ (c .before .before .before .before .before .before .before .before .before .before .before .loop .inv .1) r (omega arith), w .0, w .1 ∙ c .before .before .before .before .before .before .before .before .before .before .before .loop .inv .3)
 
 same-length : tie.Need-same-length Inv-loop μ-loop
@@ -143,19 +143,19 @@ shift-spec =
     loop-holds
     mul-a
     add-e
-    mul-shift-row
-    sub-shift-row
-    part-shift-row-start
-    part-shift-row-end
-    mul-shift-row-2
-    sub-shift-row-2
-    part-shift-row-start-2
-    part-shift-row-end-2
-    mul-shift-row-3
-    sub-shift-row-3
-    part-shift-row-start-3
-    part-shift-row-end-3
-    shift-row-requires
+    mul-combine
+    sub-combine
+    part-combine-start
+    part-combine-end
+    mul-combine-2
+    sub-combine-2
+    part-combine-start-2
+    part-combine-end-2
+    mul-combine-3
+    sub-combine-3
+    part-combine-start-3
+    part-combine-end-3
+    combine-requires
     array-borrow-prefix-weights-2
     slice-aggregate-next-weights
     next-weights-requires

@@ -2,11 +2,12 @@
 -- Assumes nothing.
 use mathlib.Core.Path.{_≡_, sym, _∙_}
 use native.Mathlib.Omega.{arith}
+use Rattle.numbers.proofs.TestsLaws.{decides-yes, decides-no}
 use Rattle.numbers.specs.Words.{word}
 use Rattle.numbers.specs.Refusals.{judge, modulusChecks}
 use Rattle.numbers.specs.declared.refusal.Verdict.the-variants.{Pass}
 use Rattle.numbers.proofs.RefusalsLaws.{modulus-pass}
-use Rattle.sheet.proofs.StagesLaws.{decides-yes, decides-no, modulus-small, modulus-refused}
+use Rattle.sheet.proofs.StagesLaws.{modulus-small, modulus-refused}
 use borrow.Author.Needs.{needs}
 use Rattle.sheet.proofs.soundness.header_fits.Statement.{statement}
 use Rattle.sheet.proofs.soundness.header_fits.Tie as tie

@@ -1,11 +1,9 @@
 -- `sheet::soundness::offsets_fit` meets its contract: the tests in their order.
 -- Assumes nothing.
 use mathlib.Core.Path.{sym, _∙_}
-use Prim.Native.Nat.{_+_, _*_}
 use native.Mathlib.Omega.{arith}
-use Rattle.numbers.specs.Words.{word}
-use Rattle.sheet.proofs.StagesLaws.{decides-yes, decides-no, all-rows-small, power-sums, corows-small, kept-rows, end-is}
 use borrow.Author.Needs.{needs}
+use Rattle.numbers.proofs.TestsLaws.{decides-yes, decides-no}
 use Rattle.sheet.proofs.soundness.offsets_fit.Statement.{statement}
 use Rattle.sheet.proofs.soundness.offsets_fit.Tie as tie
 
@@ -57,8 +55,8 @@ factors-from-requires c κs = search needs
 returns-3 : tie.Need-returns-3
 returns-3 c = decides-no (λ h. c .if3 .taken (h .offset-factors ∙ sym (c .before .factors-from .ensures)))
 
-cofactors-from-requires : tie.Need-cofactors-from-requires
-cofactors-from-requires c κs = search needs
+total-of-requires : tie.Need-total-of-requires
+total-of-requires c κs = search needs
 
 shared-slice-read-if4 : tie.Need-shared-slice-read-if4
 shared-slice-read-if4 c = search needs
@@ -67,35 +65,7 @@ cast-if4 : tie.Need-cast-if4
 cast-if4 c = omega (arith, c .shared-slice-known8 .given 8)
 
 returns-4 : tie.Need-returns-4
-returns-4 c = decides-no (λ h. c .if4 .taken (h .offset-cofactors ∙ sym (c .before .before .cofactors-from .ensures)))
-
-kept-requires : tie.Need-kept-requires
-kept-requires c κs = search needs
-
-corows-before-requires : tie.Need-corows-before-requires
-corows-before-requires c κs =
-    let h = c .before .before .before .before .before .before .before .before .before .before .before .before .before .before .before .before .pre .0 in
-    let e = c .kept .ensures in
-    (omega arith, omega arith, omega arith, power-sums (c .before .before .before .before .before .before .before .before .before .before .before .before .before .before .before .before .args .s .now) h (c .before .before .before .before .before .before .before .before .before .before .before .before .before .before .before .before .pre .1) (c .kept .result) (omega arith))
-
-mul-end : tie.Need-mul-end
-mul-end c =
-    let h = c .before .before .before .before .before .before .before .before .before .before .before .before .before .before .before .before .before .pre .0 in
-    let e = c .before .kept .ensures in
-    let k = corows-small (c .before .before .before .before .before .before .before .before .before .before .before .before .before .before .before .before .before .args .s .now) h (c .before .before .before .before .before .before .before .before .before .before .before .before .before .before .before .before .before .pre .1) (c .before .kept .result) (omega arith) in
-    omega (arith, all-rows-small (c .corows-before .result) (word (c .before .before .before .before .before .before .before .before .before .before .before .before .before .before .before .before .before .args .s .now) 2) (omega (arith, c .corows-before .ensures)) (h .width-high))
-
-add-end : tie.Need-add-end
-add-end c =
-    let h = c .before .before .before .before .before .before .before .before .before .before .before .before .before .before .before .before .before .pre .0 in
-    let e = c .before .kept .ensures in
-    let k = corows-small (c .before .before .before .before .before .before .before .before .before .before .before .before .before .before .before .before .before .args .s .now) h (c .before .before .before .before .before .before .before .before .before .before .before .before .before .before .before .before .before .pre .1) (c .before .kept .result) (omega arith) in
-    omega (
-      arith,
-      c .before .before .before .before .cofactors-from .ensures,
-      all-rows-small (2 * word (c .before .before .before .before .before .before .before .before .before .before .before .before .before .before .before .before .before .args .s .now) 1 + 1) (word (c .before .before .before .before .before .before .before .before .before .before .before .before .before .before .before .before .before .args .s .now) 2) (omega arith) (h .width-high),
-      all-rows-small (c .corows-before .result) (word (c .before .before .before .before .before .before .before .before .before .before .before .before .before .before .before .before .before .args .s .now) 2) (omega (arith, c .corows-before .ensures)) (h .width-high),
-    )
+returns-4 c = decides-no (λ h. c .if4 .taken (h .offset-rest ∙ sym (c .before .before .total-of .ensures)))
 
 shared-slice-read-if5 : tie.Need-shared-slice-read-if5
 shared-slice-read-if5 c = search needs
@@ -104,24 +74,19 @@ cast-if5 : tie.Need-cast-if5
 cast-if5 c = omega (arith, c .shared-slice-known9 .given 9)
 
 returns-5 : tie.Need-returns-5
-returns-5 c =
-    let e = end-is (c .before .before .before .before .before .before .before .before .before .before .before .before .before .before .before .before .before .before .before .args .s .now) _ _ (c .before .before .before .before .before .before .cofactors-from .ensures) (kept-rows (c .before .before .before .before .before .before .before .before .before .before .before .before .before .before .before .before .before .before .before .args .s .now) _ _ (c .before .before .before .kept .ensures) (c .before .before .corows-before .ensures)) in
-    decides-no (λ h. c .if5 .taken (h .offset-end ∙ sym e))
+returns-5 c = decides-no (λ h. c .if5 .taken (h .offset-end ∙ sym (c .before .before .before .before .total-of .ensures)))
 
 returns-6 : tie.Need-returns-6
-returns-6 c =
-    let e = end-is (c .before .before .before .before .before .before .before .before .before .before .before .before .before .before .before .before .before .before .before .before .args .s .now) _ _ (c .before .before .before .before .before .before .before .cofactors-from .ensures) (kept-rows (c .before .before .before .before .before .before .before .before .before .before .before .before .before .before .before .before .before .before .before .before .args .s .now) _ _ (c .before .before .before .before .kept .ensures) (c .before .before .before .corows-before .ensures)) in
-    let t = c .if6 .taken in
-    decides-no (λ h. let l = h .long in let z : ⊥ = omega (arith, t) in z)
+returns-6 c = let e = c .before .before .before .before .before .total-of .ensures in let t = c .if6 .taken in decides-no (λ h. let l = h .long in let z : ⊥ = omega (arith, t) in z)
 
 returns-7 : tie.Need-returns-7
 returns-7 c =
-    let e = end-is (c .before .before .before .before .before .before .before .before .before .before .before .before .before .before .before .before .before .before .before .before .args .s .now) _ _ (c .before .before .before .before .before .before .before .cofactors-from .ensures) (kept-rows (c .before .before .before .before .before .before .before .before .before .before .before .before .before .before .before .before .before .before .before .before .args .s .now) _ _ (c .before .before .before .before .kept .ensures) (c .before .before .before .corows-before .ensures)) in
+    let e = c .before .before .before .before .before .total-of .ensures in
     decides-yes (record {
-      offset-roots = c .before .before .before .before .before .before .before .before .before .before .before .before .before .before .if1 .left;
-      offset-polynomial = c .before .before .before .before .before .before .before .before .before .before .before .if2 .left ∙ c .before .before .before .before .before .before .before .before .before .before .before .before .polynomial-from .ensures;
-      offset-factors = c .before .before .before .before .before .before .before .before .if3 .left ∙ c .before .before .before .before .before .before .before .before .before .factors-from .ensures;
-      offset-cofactors = c .before .before .before .before .before .if4 .left ∙ c .before .before .before .before .before .before .before .cofactors-from .ensures;
+      offset-roots = c .before .before .before .before .before .before .before .before .before .before .before .before .if1 .left;
+      offset-polynomial = c .before .before .before .before .before .before .before .before .before .if2 .left ∙ c .before .before .before .before .before .before .before .before .before .before .polynomial-from .ensures;
+      offset-factors = c .before .before .before .before .before .before .if3 .left ∙ c .before .before .before .before .before .before .before .factors-from .ensures;
+      offset-rest = c .before .before .before .if4 .left ∙ e;
       offset-end = c .before .if5 .left ∙ e;
       long = omega (arith, c .if6 .left);
     })
@@ -146,14 +111,10 @@ offsets-fit-spec =
     cast-if3
     factors-from-requires
     returns-3
-    cofactors-from-requires
+    total-of-requires
     shared-slice-read-if4
     cast-if4
     returns-4
-    kept-requires
-    corows-before-requires
-    mul-end
-    add-end
     shared-slice-read-if5
     cast-if5
     returns-5

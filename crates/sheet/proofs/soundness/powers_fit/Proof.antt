@@ -4,10 +4,10 @@ use mathlib.Core.Path.{_≡_, ap}
 use Prim.Native.Nat.{ℕ, _≤_, _<_, _-_, _+_, _*_}
 use native.Mathlib.Omega.{arith}
 use borrow.Author.Count.{below-more}
+use Rattle.numbers.proofs.TestsLaws.{decides-yes, decides-no}
 use Rattle.algebra.specs.Sums.{sumTo, sumTo-zero, sumTo-mono}
 use Rattle.series.proofs.SeriesLaws.{sum-next}
 use Rattle.sheet.specs.Layout.{power}
-use Rattle.sheet.proofs.StagesLaws.{decides-yes, decides-no}
 use borrow.Author.Needs.{needs}
 use Rattle.sheet.proofs.soundness.powers_fit.Statement.{statement}
 use Rattle.sheet.proofs.soundness.powers_fit.Tie as tie

@@ -3,8 +3,8 @@
 use Prim.Native.Nat.{ℕ, _≤_, _<_, _-_}
 use native.Mathlib.Omega.{arith}
 use borrow.Author.Count.{below-more}
+use Rattle.numbers.proofs.TestsLaws.{decides-yes, decides-no}
 use Rattle.sheet.specs.Layout.{root}
-use Rattle.sheet.proofs.StagesLaws.{decides-yes, decides-no}
 use borrow.Author.Needs.{needs}
 use Rattle.sheet.proofs.soundness.roots_below.Statement.{statement}
 use Rattle.sheet.proofs.soundness.roots_below.Tie as tie

@@ -3,9 +3,10 @@
 use Prim.Native.Nat.{ℕ, _≤_, _<_, _-_, _+_, _*_}
 use native.Mathlib.Omega.{arith}
 use borrow.Author.Count.{below-more}
+use Rattle.numbers.proofs.TestsLaws.{decides-yes, decides-no}
 use Rattle.rows.proofs.RowsLaws.{row-fits}
 use Rattle.sheet.specs.Layout.{rowsAt}
-use Rattle.sheet.proofs.StagesLaws.{decides-yes, decides-no, all-rows-small, part-pass, part-fail}
+use Rattle.sheet.proofs.StagesLaws.{all-rows-small, part-pass, part-fail}
 use borrow.Author.Needs.{needs}
 use Rattle.sheet.proofs.soundness.rows_below.Statement.{statement}
 use Rattle.sheet.proofs.soundness.rows_below.Tie as tie

@@ -2,7 +2,7 @@
 -- Assumes nothing.
 use native.Mathlib.Omega.{arith}
 use borrow.Author.Tests.{not-true, not-false}
-use Rattle.sheet.proofs.StagesLaws.{decides-yes, decides-no}
+use Rattle.numbers.proofs.TestsLaws.{decides-yes, decides-no}
 use borrow.Author.Needs.{needs}
 use Rattle.sheet.proofs.soundness.shape_fits.Statement.{statement}
 use Rattle.sheet.proofs.soundness.shape_fits.Tie as tie

@@ -2,15 +2,11 @@
 -- Assumes nothing.
 use mathlib.Core.Path.{_≡_, _∙_, sym}
 use mathlib.Core.List.{[], _∷_}
-use Prim.Native.Nat.{ℕ, _+_, _*_, _≤_}
-use native.Mathlib.Nat.{mod-lt, mul-le-mul}
 use native.Mathlib.Omega.{arith}
-use borrow.Author.Tests.{eq-eqb, ne-eqb}
-use Rattle.numbers.specs.Refusals.{judge, check}
+use Rattle.numbers.specs.Refusals.{judge}
 use Rattle.numbers.specs.Number.{operandChecks, differenceOf}
-use Rattle.numbers.specs.declared.refusal.Verdict.the-variants.{Pass, Refuse}
-use Rattle.numbers.proofs.NumberLaws.{two-pass, operands-pass}
-use Rattle.numbers.proofs.RefusalsLaws.{after-pass, after-refuse}
+use Rattle.numbers.specs.declared.refusal.Verdict.the-variants.{Pass}
+use Rattle.numbers.proofs.NumberLaws.{two-pass}
 use borrow.Author.Needs.{needs}
 use Rattle.numbers.proofs.number.Number.difference.Statement.{statement}
 use Rattle.numbers.proofs.number.Number.difference.Tie as tie

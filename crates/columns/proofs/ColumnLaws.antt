@@ -1,0 +1,446 @@
+-- Laws of the definitions of `specs/Column`: lists that a loop changes in place, what one turn of each loop computes, lengths and bounds.
+-- Assumes nothing.
+use mathlib.Core.Path.{_≡_, refl, sym, ap, ap₂, subst, _∙_}
+use mathlib.Core.Logic.{⊎-elim}
+use mathlib.Core.List.{List, [], _∷_, _++_, append-nil}
+use Prim.Native.Nat.{ℕ, zero, suc, _+_, _-_, _*_, _%_, _≤_, _<_}
+use native.Mathlib.Nat.{eq-or-lt-of-le, le-refl, mod-lt, mod-eq-of-lt, mod-mod, add-mod-right, sub-zero, mul-le-mul}
+use native.Mathlib.Numerals.{add-one}
+use native.Mathlib.Omega.{arith}
+use lib.ListN.{length, take, drop, set, length-append, length-drop, length-set, drop-of-length-le, List·getD-append, List·getD-eq-default}
+use lib.Seq.{ext-getD, getD-append-add, getD-drop, getD-take, getD-set-same, getD-set-other, set-getD, length-take-le, take-length, take-suc, take-suc-set, drop-set-lt, drop-cons, take-at, drop-at, take-append-add, drop-append-add, append-snoc}
+use Rattle.numbers.specs.Words.{word, tabulate, over, AllBelow}
+use Rattle.rows.specs.Rows.{rowsOf}
+use Rattle.numbers.proofs.WordsLaws.{lt-or-ge, length-tabulate, word-tabulate, tabulate-below, length-over, over-whole, Writing, writing-next, over-past, writing-past, from, from-is, length-from, from-below}
+use Rattle.columns.specs.Column.{hornerWord, hornerWords, lessMultiple, digits, lineTimes, undigits, ColumnStored, middleSum, firstOnly}
+
+-- a number below 2^24 times a word
+pub product-fits : (a b : ℕ) → a < 16777216 → b < 4294967296 → a * b ≤ 16777215 * 4294967295
+product-fits a b h g = mul-le-mul {n₂ = 16777215} {m₂ = 4294967295} (omega arith) (omega arith)
+
+-- a row ends before the next begins
+pub row-before : (i j N : ℕ) → i < j → i * N + N ≤ j * N
+row-before i j N l = omega (arith, mul-le-mul {n₁ = suc i} {m₁ = N} {n₂ = j} {m₂ = N} l (le-refl N))
+
+-- A list that a loop writes from its end down to word j: from there on the words are those of f, before it the old ones.
+pub record Sinking (f : ℕ → ℕ) (s e : List ℕ) (j : ℕ) : Type 0 where
+  pub long : length e ≡ length s
+  pub kept : (k : ℕ) → k < j → word e k ≡ word s k
+  pub done : (k : ℕ) → j ≤ k → k < length s → word e k ≡ f k
+
+pub sinking-store : (f : ℕ → ℕ) (s e : List ℕ) (j v : ℕ) → Sinking f s e j → 0 < j → j ≤ length s → v ≡ f (j - 1) → Sinking f s (set e (j - 1) v) (j - 1)
+sinking-store f s e j v w pos h q = record {
+  long = length-set e (j - 1) v ∙ w .long;
+  kept = λ k l. getD-set-other e (j - 1) k v 0 (λ (x : k ≡ j - 1). omega arith) ∙ w .kept k (omega arith);
+  done = λ k l g.
+      ⊎-elim
+      (λ (x : j - 1 ≡ k). ap (word (set e (j - 1) v)) (sym x) ∙ getD-set-same e (j - 1) v 0 (omega (arith, w .long)) ∙ q ∙ ap f x)
+      (λ (x : j - 1 < k). getD-set-other e (j - 1) k v 0 (λ (y : k ≡ j - 1). omega arith) ∙ w .done k (omega arith) g)
+      (eq-or-lt-of-le l);
+}
+
+pub sinking-all : (f : ℕ → ℕ) (s e : List ℕ) (j : ℕ) → Sinking f s e j → j ≡ 0 → e ≡ tabulate (length s) f
+sinking-all f s e j w z =
+    ext-getD 0 e (tabulate (length s) f) (w .long ∙ sym (length-tabulate (length s) f))
+    (λ k l. let g : k < length s = omega (arith, w .long) in w .done k (omega arith) g ∙ sym (word-tabulate (length s) f k g))
+
+module _ (p c : ℕ) where
+  -- word t of Horner's scheme over s
+  abbrev pub hornerAt : List ℕ → ℕ → ℕ
+  hornerAt s t = hornerWord p c (length s - t) (word s) t
+
+  pub horner-word-suc : (n : ℕ) (b : ℕ → ℕ) (t : ℕ) → hornerWord p c (suc n) b t ≡ (b t + c * hornerWord p c n b (suc t)) % p
+  unfolding hornerWord
+  horner-word-suc n b t = refl
+
+  pub horner-word-none : (b : ℕ → ℕ) (t : ℕ) → hornerWord p c zero b t ≡ 0
+  unfolding hornerWord
+  horner-word-none b t = refl
+
+  pub horner-at-step : (s : List ℕ) (t : ℕ) → t < length s → hornerAt s t ≡ (word s t + c * hornerAt s (t + 1)) % p
+  horner-at-step s t h =
+      let q : length s - t ≡ suc (length s - (t + 1)) = omega arith in
+      ap (λ (n : ℕ). hornerWord p c n (word s) t) q ∙ horner-word-suc (length s - (t + 1)) (word s) t
+      ∙ ap (λ (u : ℕ). (word s t + c * hornerWord p c (length s - (t + 1)) (word s) u) % p) (sym (add-one t))
+
+  -- the last word stays, and there the scheme begins
+  pub horner-starts : (s : List ℕ) → 1 ≤ length s → AllBelow p s → Sinking (hornerAt s) s s (length s - 1)
+  horner-starts s h b = record {
+    long = refl;
+    kept = λ k l. refl;
+    done = λ k l g.
+        let z : length s - (k + 1) ≡ 0 = omega arith in
+        let e : hornerAt s (k + 1) ≡ 0 = ap (λ (n : ℕ). hornerWord p c n (word s) (k + 1)) z ∙ horner-word-none (word s) (k + 1) in
+        sym (horner-at-step s k g ∙ ap (λ (x : ℕ). (word s k + c * x) % p) e
+        ∙ ap (λ (x : ℕ). x % p) (let y : word s k + c * 0 ≡ word s k = omega arith in y) ∙ mod-eq-of-lt (b k g));
+  }
+
+  -- one turn
+  pub horner-turn : (s e : List ℕ) (j : ℕ) → Sinking (hornerAt s) s e j → 0 < j → j < length s
+      → (word e (j - 1) + c * word e (j - 1 + 1)) % p ≡ hornerAt s (j - 1)
+  horner-turn s e j w pos h =
+      rw (w .kept (j - 1) (omega arith), w .done (j - 1 + 1) (omega arith) (omega arith)) (sym (horner-at-step s (j - 1) (omega arith)))
+
+  -- word j of q + (Y − c) · r
+  abbrev pub lineAt : List ℕ → ℕ → ℕ
+  lineAt s j = (word s j + (p - c) * word s (j + 1)) % p
+
+  -- one turn
+  pub line-turn : (s e : List ℕ) (j : ℕ) → Writing (tabulate j (lineAt s)) s e → (word e j + (p - c) * word e (j + 1)) % p ≡ lineAt s j
+  line-turn s e j w =
+      rw (writing-past _ s e j w (omega (arith, length-tabulate j (lineAt s))), writing-past _ s e (j + 1) w (omega (arith, length-tabulate j (lineAt s))))
+
+  -- the last word stays
+  pub line-all : (s e : List ℕ) (j : ℕ) → j + 1 ≡ length s → AllBelow p s → Writing (tabulate j (lineAt s)) s e → e ≡ lineTimes p c s
+  unfolding lineTimes
+  line-all s e j h b w =
+      let past : word s (j + 1) ≡ 0 = List·getD-eq-default s 0 (omega arith) in
+      let last : word e j ≡ lineAt s j =
+      writing-past _ s e j w (omega (arith, length-tabulate j (lineAt s))) ∙ sym (mod-eq-of-lt (b j (omega arith)))
+      ∙ ap (λ (x : ℕ). x % p) (let y : word s j ≡ word s j + (p - c) * 0 = omega arith in y) ∙ ap (λ (x : ℕ). (word s j + (p - c) * x) % p) (sym past) in
+      let v : Writing (tabulate (j + 1) (lineAt s)) s e =
+      subst (λ (l : List ℕ). Writing (tabulate (j + 1) (lineAt s)) s l) (set-getD e j 0) (writing-next j (lineAt s) s e (word e j) w last (omega arith)) in
+      v .is ∙ ap (λ (k : ℕ). over (tabulate k (lineAt s)) s) h ∙ over-whole (tabulate (length s) (lineAt s)) s (length-tabulate (length s) (lineAt s))
+
+-- word j of e − q · a
+abbrev pub lessAt : (p q : ℕ) (a s : List ℕ) → ℕ → ℕ
+lessAt p q a s j = (word s j + (p - q * word a j % p)) % p
+
+-- one turn
+pub less-turn : (p q : ℕ) (a s e : List ℕ) (j : ℕ) → Writing (tabulate j (lessAt p q a s)) s e → (word e j + (p - q * word a j % p)) % p ≡ lessAt p q a s j
+less-turn p q a s e j w = rw (writing-past _ s e j w (omega (arith, length-tabulate j (lessAt p q a s))))
+
+-- no column is stored yet, and one word of it more
+pub stored-none : (N t : ℕ) (s : List ℕ) → ColumnStored N t [] s s
+stored-none N t s = record { long = refl; here = λ j l. omega arith; others = λ j l. omega arith; rest = λ i l. refl }
+
+pub stored-next : (N t : ℕ) (e old new : List ℕ) (j : ℕ) → t < N → j < length e → length e * N ≤ length old
+    → ColumnStored N t (take j e) old new → ColumnStored N t (take (j + 1) e) old (set new (j * N + t) (word e j))
+stored-next N t e old new j g h room w =
+    let v = word e j in
+    let n₀ : length (take j e) ≡ j = length-take-le j e (omega arith) in
+    let n₁ : length (take (j + 1) e) ≡ j + 1 = length-take-le (j + 1) e (omega arith) in
+    let fits : j * N + N ≤ length old = omega (arith, row-before j (length e) N h) in
+    let lo : length (take j e) * N ≡ j * N = ap (λ (x : ℕ). x * N) n₀ in
+    record {
+      long = length-set new (j * N + t) v ∙ w .long;
+      here = λ i l.
+          ⊎-elim
+          (λ (x : i ≡ j). rw x (getD-set-same new (j * N + t) v 0 (omega (arith, w .long)) ∙ sym (getD-take (j + 1) e j 0 (omega arith))))
+          (λ (x : i < j).
+          getD-set-other new (j * N + t) (i * N + t) v 0 (λ (y : i * N + t ≡ j * N + t). omega (arith, row-before i j N x))
+          ∙ w .here i (omega arith) ∙ getD-take j e i 0 x ∙ sym (getD-take (j + 1) e i 0 (omega arith)))
+          (eq-or-lt-of-le {n = i} {m = j} (omega arith));
+      others = λ i l s k ne.
+          ⊎-elim
+          (λ (x : i ≡ j). rw x (getD-set-other new (j * N + t) (j * N + s) v 0 (λ (y : j * N + s ≡ j * N + t). ne (omega arith)) ∙ w .rest (j * N + s) (omega arith)))
+          (λ (x : i < j).
+          getD-set-other new (j * N + t) (i * N + s) v 0 (λ (y : i * N + s ≡ j * N + t). omega (arith, row-before i j N x))
+          ∙ w .others i (omega arith) s k ne)
+          (eq-or-lt-of-le {n = i} {m = j} (omega arith));
+      rest = λ i l.
+          let hi : length (take (j + 1) e) * N ≡ j * N + N = ap (λ (x : ℕ). x * N) n₁ ∙ omega arith in
+          getD-set-other new (j * N + t) i v 0 (λ (y : i ≡ j * N + t). omega arith) ∙ w .rest i (omega arith);
+    }
+
+pub stored-all : (N t : ℕ) (e old new : List ℕ) (j : ℕ) → ColumnStored N t (take j e) old new → j ≡ length e → ColumnStored N t e old new
+stored-all N t e old new j w q = subst (λ (l : List ℕ). ColumnStored N t l old new) (ap (λ (k : ℕ). take k e) q ∙ take-length e) w
+
+abbrev pub putFrom : ℕ → List ℕ → List ℕ → List ℕ
+putFrom i e y = take i e ++ (y ++ drop (length e - i) (drop i e))
+
+pub put-from : (i : ℕ) (e y : List ℕ) → putFrom i e y ≡ take i e ++ y
+put-from i e y =
+    ap (λ (l : List ℕ). take i e ++ l)
+    (ap (λ (l : List ℕ). y ++ l) (drop-of-length-le (drop i e) {i = length e - i} (simp length-drop (omega arith))) ∙ append-nil y)
+
+-- bounds of parts
+cons-below : (p q : ℕ) (s : List ℕ) → q < p → AllBelow p s → AllBelow p (q ∷ s)
+cons-below p q s h b zero l = h
+cons-below p q s h b (suc k) l = b k (omega arith)
+
+pub append-below : (p : ℕ) (s t : List ℕ) → AllBelow p s → AllBelow p t → AllBelow p (s ++ t)
+append-below p s t hs ht k l =
+    ⊎-elim
+    (λ (x : k < length s). rw (List·getD-append s t 0 k x) (hs k x))
+    (λ (x : length s ≤ k).
+    let q : length s + (k - length s) ≡ k = omega arith in
+    subst (λ (i : ℕ). word (s ++ t) i < p) q (rw (getD-append-add s t (k - length s) 0) (ht (k - length s) (omega (arith, length-append s t)))))
+    (lt-or-ge k (length s))
+
+pub drop-below : (p n : ℕ) (s : List ℕ) → AllBelow p s → AllBelow p (drop n s)
+drop-below p n s h k l = rw (getD-drop n s k 0) (h (n + k) (omega (arith, length-drop n s)))
+
+pub take-below : (p n : ℕ) (s : List ℕ) → n ≤ length s → AllBelow p s → AllBelow p (take n s)
+take-below p n s g h k l = let e = length-take-le n s g in rw (getD-take n s k 0 (omega arith)) (h k (omega arith))
+
+pub over-below : (p : ℕ) (xs s : List ℕ) → AllBelow p xs → AllBelow p s → AllBelow p (over xs s)
+over-below p xs s h g = append-below p xs (drop (length xs) s) h (drop-below p (length xs) s g)
+
+-- lengths, and bounds by p
+pub length-horner : (p c : ℕ) (e : List ℕ) → length (hornerWords p c e) ≡ length e
+unfolding hornerWords
+length-horner p c e = length-tabulate (length e) _
+
+pub length-less : (p q : ℕ) (a e : List ℕ) → length a ≤ length e → length (lessMultiple p q a e) ≡ length e
+unfolding lessMultiple
+length-less p q a e h = length-over (tabulate (length a) (lessAt p q a e)) e (omega (arith, length-tabulate (length a) (lessAt p q a e)))
+
+pub length-line : (p c : ℕ) (e : List ℕ) → length (lineTimes p c e) ≡ length e
+unfolding lineTimes
+length-line p c e = length-tabulate (length e) _
+
+pub length-undigits : (p c : ℕ) (e : List ℕ) → length (undigits p c e) ≡ length e
+unfolding undigits
+length-undigits p c [] = refl
+length-undigits p c (q ∷ qs) = length-line p c (q ∷ undigits p c qs) ∙ ap suc (length-undigits p c qs)
+
+module _ (p : ℕ) (pos : 1 ≤ p) where
+  pub horner-word-below : (c n : ℕ) (b : ℕ → ℕ) (t : ℕ) → hornerWord p c n b t < p
+  horner-word-below c zero b t = rw (horner-word-none p c b t) pos
+  horner-word-below c (suc n) b t = rw (horner-word-suc p c n b t) (mod-lt _ pos)
+
+  pub horner-below : (c : ℕ) (e : List ℕ) → AllBelow p (hornerWords p c e)
+  unfolding hornerWords
+  horner-below c e = tabulate-below p (length e) _ (λ t _. horner-word-below c (length e - t) (word e) t)
+
+  pub less-below : (q : ℕ) (a e : List ℕ) → AllBelow p e → AllBelow p (lessMultiple p q a e)
+  unfolding lessMultiple
+  less-below q a e h = over-below p (tabulate (length a) (lessAt p q a e)) e (tabulate-below p (length a) (lessAt p q a e) (λ j _. mod-lt _ pos)) h
+
+  pub line-below : (c : ℕ) (e : List ℕ) → AllBelow p (lineTimes p c e)
+  unfolding lineTimes
+  line-below c e = tabulate-below p (length e) _ (λ j _. mod-lt _ pos)
+
+  pub undigits-below : (c : ℕ) (e : List ℕ) → AllBelow p (undigits p c e)
+  unfolding undigits
+  undigits-below c [] = λ k l. omega arith
+  undigits-below c (q ∷ qs) = line-below c (q ∷ undigits p c qs)
+
+-- what a call of `less_multiple` is lent once the digit q is stored
+pub digit-rest : (h : List ℕ) (q : ℕ) → from (set h 0 q) 1 ≡ drop 1 h
+digit-rest h q = from-is (set h 0 q) 1 ∙ drop-set-lt 1 h 0 q (omega arith)
+
+pub digit-rest-length : (p c : ℕ) (e h : List ℕ) (q : ℕ) → h ≡ hornerWords p c e → length (from (set h 0 q) 1) ≡ length e - 1
+digit-rest-length p c e h q x = ap length (digit-rest h q) ∙ length-drop 1 h ∙ ap (λ (l : List ℕ). length l - 1) x ∙ ap (λ (n : ℕ). n - 1) (length-horner p c e)
+
+pub digit-rest-below : (p c : ℕ) (e h : List ℕ) (q : ℕ) → 1 ≤ p → h ≡ hornerWords p c e → AllBelow p (from (set h 0 q) 1)
+digit-rest-below p c e h q pos x = rw (digit-rest h q, x) (drop-below p 1 (hornerWords p c e) (horner-below p pos c e))
+
+module _ (p c w : ℕ) (a : List ℕ) where
+  -- the next digit of e, and what is left after it
+  abbrev pub digitOf : List ℕ → ℕ
+  digitOf e = word (hornerWords p c e) 0 * w % p
+
+  abbrev pub leftOf : List ℕ → List ℕ
+  leftOf e = lessMultiple p (digitOf e) a (drop 1 (hornerWords p c e))
+
+  pub digits-zero : (e : List ℕ) → digits p c w a 0 e ≡ e
+  unfolding digits
+  digits-zero e = refl
+
+  pub digits-suc : (m : ℕ) (e : List ℕ) → digits p c w a (suc m) e ≡ digitOf e ∷ digits p c w a m (leftOf e)
+  unfolding digits
+  digits-suc m e = refl
+
+  pub digits-one : (e : List ℕ) → digits p c w a 1 e ≡ digitOf e ∷ leftOf e
+  unfolding digits
+  digits-one e = refl
+
+  pub length-left : (e : List ℕ) → length a < length e → length (leftOf e) ≡ length e - 1
+  length-left e h =
+      let n : length (drop 1 (hornerWords p c e)) ≡ length e - 1 = length-drop 1 (hornerWords p c e) ∙ ap (λ (k : ℕ). k - 1) (length-horner p c e) in
+      length-less p (digitOf e) a (drop 1 (hornerWords p c e)) (omega arith) ∙ n
+
+  pub length-digits : (m : ℕ) (e : List ℕ) → m + length a ≤ length e → length (digits p c w a m e) ≡ length e
+  length-digits zero e h = ap length (digits-zero e)
+  length-digits (suc m) e h =
+      let n = length-left e (omega arith) in
+      ap length (digits-suc m e) ∙ ap suc (length-digits m (leftOf e) (omega arith)) ∙ omega arith
+
+  pub left-below : (e : List ℕ) → 1 ≤ p → AllBelow p (leftOf e)
+  left-below e pos = less-below p pos (digitOf e) a (drop 1 (hornerWords p c e)) (drop-below p 1 (hornerWords p c e) (horner-below p pos c e))
+
+  pub digits-below : 1 ≤ p → (m : ℕ) (e : List ℕ) → AllBelow p e → AllBelow p (digits p c w a m e)
+  digits-below pos zero e h = rw (digits-zero e) h
+  digits-below pos (suc m) e h =
+      rw (digits-suc m e) (cons-below p (digitOf e) (digits p c w a m (leftOf e)) (mod-lt _ pos) (digits-below pos m (leftOf e) (left-below e pos)))
+
+  -- what that call leaves
+  pub digit-is : (e h y : List ℕ) → h ≡ hornerWords p c e → 1 ≤ length e
+      → y ≡ lessMultiple p (word h 0 * w % p) a (from (set h 0 (word h 0 * w % p)) 1)
+      → putFrom 1 (set h 0 (word h 0 * w % p)) y ≡ digits p c w a 1 e
+  digit-is e h y q pos z =
+      let d = word h 0 * w % p in
+      put-from 1 (set h 0 d) y
+      ∙ ap (λ (l : List ℕ). l ++ y) (take-suc-set h 0 d (omega (arith, ap length q, length-horner p c e)))
+      ∙ ap (λ (l : List ℕ). d ∷ l) (z ∙ ap (lessMultiple p d a) (digit-rest h d))
+      ∙ ap (λ (l : List ℕ). word l 0 * w % p ∷ lessMultiple p (word l 0 * w % p) a (drop 1 l)) q
+      ∙ sym (digits-one e)
+
+  -- the digits one by one
+  pub digits-turn : (m : ℕ) (s e y : List ℕ) (i : ℕ) → i < m → i ≤ length e → digits p c w a m s ≡ take i e ++ digits p c w a (m - i) (drop i e)
+      → y ≡ digits p c w a 1 (from e i)
+      → digits p c w a m s ≡ take (i + 1) (putFrom i e y) ++ digits p c w a (m - (i + 1)) (drop (i + 1) (putFrom i e y))
+  digits-turn m s e y i l h inv z =
+      let x = drop i e in
+      let n : length (take i e) + 1 ≡ i + 1 = ap (λ (k : ℕ). k + 1) (length-take-le i e h) in
+      let k : m - i ≡ suc (m - (i + 1)) = omega arith in
+      let u : y ≡ digitOf x ∷ leftOf x = z ∙ ap (digits p c w a 1) (from-is e i) ∙ digits-one x in
+      let v : putFrom i e y ≡ take i e ++ (digitOf x ∷ leftOf x) = put-from i e y ∙ ap (λ (l : List ℕ). take i e ++ l) u in
+      let t : take (i + 1) (putFrom i e y) ≡ take i e ++ (digitOf x ∷ []) =
+      ap (take (i + 1)) v ∙ ap (λ (j : ℕ). take j (take i e ++ (digitOf x ∷ leftOf x))) (sym n) ∙ take-append-add (take i e) (digitOf x ∷ leftOf x) 1 in
+      let d : drop (i + 1) (putFrom i e y) ≡ leftOf x =
+      ap (drop (i + 1)) v ∙ ap (λ (j : ℕ). drop j (take i e ++ (digitOf x ∷ leftOf x))) (sym n) ∙ drop-append-add (take i e) (digitOf x ∷ leftOf x) 1 in
+      inv ∙ ap (λ (j : ℕ). take i e ++ digits p c w a j x) k ∙ ap (λ (l : List ℕ). take i e ++ l) (digits-suc (m - (i + 1)) x)
+      ∙ sym (append-snoc (take i e) (digitOf x) (digits p c w a (m - (i + 1)) (leftOf x)))
+      ∙ rw (t, d) refl
+
+  pub digits-turn-length : (e y : List ℕ) (i : ℕ) → i + length a < length e → y ≡ digits p c w a 1 (from e i) → length (putFrom i e y) ≡ length e
+  digits-turn-length e y i h z =
+      let n : length y ≡ length e - i =
+      ap length z ∙ length-digits 1 (from e i) (omega (arith, length-from e i)) ∙ length-from e i in
+      ap length (put-from i e y) ∙ length-append (take i e) y ∙ omega (arith, length-take-le i e (omega arith))
+
+  pub digits-turn-below : 1 ≤ p → (e y : List ℕ) (i : ℕ) → i ≤ length e → AllBelow p e → y ≡ digits p c w a 1 (from e i) → AllBelow p (putFrom i e y)
+  digits-turn-below pos e y i h b z =
+      rw (put-from i e y, z) (append-below p (take i e) (digits p c w a 1 (from e i)) (take-below p i e h b)
+      (digits-below pos 1 (from e i) (from-below p e i b)))
+
+module _ (p c : ℕ) where
+  -- the list of a loop that has expanded the digits from i on
+  abbrev pub expandedFrom : ℕ → List ℕ → List ℕ
+  expandedFrom i s = take i s ++ undigits p c (drop i s)
+
+  pub undigits-cons : (q : ℕ) (qs : List ℕ) → undigits p c (q ∷ qs) ≡ lineTimes p c (q ∷ undigits p c qs)
+  unfolding undigits
+  undigits-cons q qs = refl
+
+  pub undigits-none : undigits p c [] ≡ []
+  unfolding undigits
+  undigits-none = refl
+
+  pub expanded-length : (i : ℕ) (s : List ℕ) → i ≤ length s → length (expandedFrom i s) ≡ length s
+  expanded-length i s h =
+      length-append (take i s) (undigits p c (drop i s))
+      ∙ omega (arith, length-take-le i s h, length-undigits p c (drop i s), length-drop i s)
+
+  pub expanded-below : 1 ≤ p → (i : ℕ) (s : List ℕ) → i ≤ length s → AllBelow p s → AllBelow p (expandedFrom i s)
+  expanded-below pos i s h b = append-below p (take i s) (undigits p c (drop i s)) (take-below p i s h b) (undigits-below p pos c (drop i s))
+
+  expanded-suc : (j : ℕ) (s : List ℕ) → j < length s → expandedFrom (suc j) s ≡ take j s ++ (word s j ∷ undigits p c (drop (suc j) s))
+  expanded-suc j s h =
+      ap (λ (l : List ℕ). l ++ undigits p c (drop (suc j) s)) (take-suc s j 0 h) ∙ append-snoc (take j s) (word s j) (undigits p c (drop (suc j) s))
+
+  -- one more
+  pub expanded-next : (j : ℕ) (s y : List ℕ) → j < length s → y ≡ lineTimes p c (from (expandedFrom (suc j) s) j)
+      → putFrom j (expandedFrom (suc j) s) y ≡ expandedFrom j s
+  expanded-next j s y h z =
+      let x = word s j ∷ undigits p c (drop (suc j) s) in
+      let n = length-take-le j s (omega arith) in
+      let t : take j (expandedFrom (suc j) s) ≡ take j s = ap (take j) (expanded-suc j s h) ∙ take-at (take j s) x j n in
+      let d : from (expandedFrom (suc j) s) j ≡ x = from-is (expandedFrom (suc j) s) j ∙ ap (drop j) (expanded-suc j s h) ∙ drop-at (take j s) x j n in
+      put-from j (expandedFrom (suc j) s) y ∙ ap (λ (l : List ℕ). l ++ y) t
+      ∙ ap (λ (l : List ℕ). take j s ++ l) (z ∙ ap (lineTimes p c) d ∙ sym (undigits-cons (word s j) (drop (suc j) s)) ∙ ap (undigits p c) (sym (drop-cons s j 0 h)))
+
+  pub expanded-turn : (i : ℕ) (s e y : List ℕ) → 0 < i → i ≤ length s → e ≡ expandedFrom i s → y ≡ lineTimes p c (from e (i - 1))
+      → putFrom (i - 1) e y ≡ expandedFrom (i - 1) s
+  expanded-turn i s e y pos h q z =
+      let k : i ≡ suc (i - 1) = omega arith in
+      let r : e ≡ expandedFrom (suc (i - 1)) s = q ∙ ap (λ (n : ℕ). expandedFrom n s) k in
+      ap (λ (l : List ℕ). putFrom (i - 1) l y) r ∙ expanded-next (i - 1) s y (omega arith) (z ∙ ap (λ (l : List ℕ). lineTimes p c (from l (i - 1))) r)
+
+  pub expanded-none : (s : List ℕ) → s ≡ expandedFrom (length s) s
+  expanded-none s =
+      sym (ap₂ (λ (x y : List ℕ). x ++ y) (take-length s) (ap (undigits p c) (drop-of-length-le s (le-refl (length s))) ∙ undigits-none) ∙ append-nil s)
+
+  -- the first m digits expanded
+  pub expanded-part : (m : ℕ) (d e y : List ℕ) → e ≡ d → m ≤ length d → y ≡ undigits p c (take m e) → y ++ drop m e ≡ over (undigits p c (take m d)) d
+  expanded-part m d e y q h z =
+      let u = undigits p c (take m d) in
+      let n : m ≡ length u = sym (length-undigits p c (take m d) ∙ length-take-le m d h) in
+      ap₂ (λ (x l : List ℕ). x ++ drop m l) (z ∙ ap (λ (l : List ℕ). undigits p c (take m l)) q) q ∙ ap (λ (k : ℕ). u ++ drop k d) n
+
+-- words at every index, past the end too
+module _ (p c : ℕ) (pos : zero < p) where
+  -- one coefficient more, which is 0, changes nothing
+  horner-word-more : (n : ℕ) (b : ℕ → ℕ) (t : ℕ) → ((j : ℕ) → t + n ≤ j → b j ≡ 0) → hornerWord p c (suc n) b t ≡ hornerWord p c n b t
+  horner-word-more zero b t h =
+      horner-word-suc p c zero b t ∙ ap₂ (λ x y. (x + c * y) % p) (h t (omega arith)) (horner-word-none p c b (suc t))
+      ∙ ap (λ x. x % p) (let e : 0 + c * 0 ≡ 0 = omega arith in e) ∙ mod-eq-of-lt pos ∙ sym (horner-word-none p c b t)
+  horner-word-more (suc n) b t h =
+      horner-word-suc p c (suc n) b t ∙ ap (λ x. (b t + c * x) % p) (horner-word-more n b (suc t) (λ j l. h j (omega arith))) ∙ sym (horner-word-suc p c n b t)
+
+  horner-word-longer : (d n : ℕ) (b : ℕ → ℕ) (t : ℕ) → ((j : ℕ) → t + n ≤ j → b j ≡ 0) → hornerWord p c (d + n) b t ≡ hornerWord p c n b t
+  horner-word-longer zero n b t h = ap (λ k. hornerWord p c k b t) (let e : 0 + n ≡ n = omega arith in e)
+  horner-word-longer (suc d) n b t h =
+      ap (λ k. hornerWord p c k b t) (let e : suc d + n ≡ suc (d + n) = omega arith in e)
+      ∙ horner-word-more (d + n) b t (λ j l. h j (omega arith)) ∙ horner-word-longer d n b t h
+
+  -- the coefficients from t on are all that count
+  pub horner-word-rest : (n : ℕ) (b : ℕ → ℕ) (t : ℕ) → ((j : ℕ) → n ≤ j → b j ≡ 0) → hornerWord p c (n - t) b t ≡ hornerWord p c n b t
+  horner-word-rest n b t h =
+      sym (horner-word-longer (n - (n - t)) (n - t) b t (λ j l. h j (omega arith)))
+      ∙ ap (λ k. hornerWord p c k b t) (let e : n - (n - t) + (n - t) ≡ n = omega arith in e)
+
+  pub horner-words-at : (e : List ℕ) (t : ℕ) → word (hornerWords p c e) t ≡ hornerWord p c (length e) (word e) t
+  unfolding hornerWords
+  horner-words-at e t =
+      let f = hornerAt p c e in
+      ⊎-elim
+      (λ (l : t < length e). word-tabulate (length e) f t l)
+      (λ (l : length e ≤ t).
+      List·getD-eq-default (tabulate (length e) f) 0 (omega (arith, length-tabulate (length e) f)) ∙ sym (horner-word-none p c (word e) t)
+      ∙ ap (λ k. hornerWord p c k (word e) t) (let z : 0 ≡ length e - t = omega arith in z))
+      (lt-or-ge t (length e))
+      ∙ horner-word-rest (length e) (word e) t (λ j l. List·getD-eq-default e 0 l)
+
+  pub line-words-at : (s : List ℕ) (j : ℕ) → word (lineTimes p c s) j ≡ lineAt p c s j
+  unfolding lineTimes
+  line-words-at s j =
+      ⊎-elim
+      (λ (l : j < length s). word-tabulate (length s) (lineAt p c s) j l)
+      (λ (l : length s ≤ j).
+      List·getD-eq-default (tabulate (length s) (lineAt p c s)) 0 (omega (arith, length-tabulate (length s) (lineAt p c s)))
+      ∙ sym (mod-eq-of-lt pos) ∙ ap (λ x. x % p) (let z : 0 ≡ 0 + (p - c) * 0 = omega arith in z)
+      ∙ ap₂ (λ x y. (x + (p - c) * y) % p) (sym (List·getD-eq-default s 0 l)) (sym (List·getD-eq-default s 0 (let g : length s ≤ j + 1 = omega arith in g))))
+      (lt-or-ge j (length s))
+
+-- up to multiples of p
+pub less-words-at : (p : ℕ) → zero < p → (d : ℕ) (a e : List ℕ) → length a ≤ length e → (j : ℕ) → word (lessMultiple p d a e) j % p ≡ lessAt p d a e j % p
+unfolding lessMultiple
+less-words-at p pos d a e h j =
+    let s = tabulate (length a) (lessAt p d a e) in
+    let n = length-tabulate (length a) (lessAt p d a e) in
+    ⊎-elim
+    (λ (l : j < length a). ap (λ x. x % p) (List·getD-append s (drop (length s) e) 0 j (omega arith) ∙ word-tabulate (length a) (lessAt p d a e) j l))
+    (λ (l : length a ≤ j).
+    let z : d * word a j ≡ 0 = ap (λ x. d * x) (List·getD-eq-default a 0 l) ∙ omega arith in
+    ap (λ x. x % p) (over-past s e j (omega arith)) ∙ sym (add-mod-right (word e j) p) ∙ ap (λ x. (word e j + x) % p) (sym (sub-zero p))
+    ∙ ap (λ x. (word e j + (p - x)) % p) (sym (ap (λ x. x % p) z ∙ mod-eq-of-lt pos)) ∙ sym (mod-mod _ p))
+    (lt-or-ge j (length a))
+
+-- row j of what `gather` writes
+abbrev pub gatherAt : (p : ℕ) (f low : List ℕ) (m : ℕ) (high : List ℕ) (k n t : ℕ) → ℕ → ℕ
+gatherAt p f low m high k n t j = (word f (j * n + t) + (p - middleSum (rowsOf low n m) (rowsOf high n k) j t % p)) % p
+
+-- first, 0, 0, ..
+pub first-only-later : (x t : ℕ) → 1 ≤ t → 0 ≡ firstOnly x t
+first-only-later x zero h = absurd (let z : ⊥ = omega arith in z)
+first-only-later x (suc t) h = refl
+
+-- the words of a list, tabulated
+pub tabulate-words : (s : List ℕ) → tabulate (length s) (word s) ≡ s
+tabulate-words s =
+    ext-getD 0 (tabulate (length s) (word s)) s (length-tabulate (length s) (word s))
+    (λ i l. word-tabulate (length s) (word s) i (omega (arith, length-tabulate (length s) (word s))))
+
+-- a difference modulo p, as `less` takes it
+pub less-low : (p x y : ℕ) → x < p → y ≤ x → x - y ≡ (x + (p - y)) % p
+less-low p x y l g =
+    let e : x + (p - y) ≡ x - y + p = omega arith in
+    let u : x - y < p = omega arith in
+    sym (ap (λ (z : ℕ). z % p) e ∙ add-mod-right (x - y) p ∙ mod-eq-of-lt u)
+
+pub less-high : (p x y : ℕ) → y < p → x < y → x + (p - y) ≡ (x + (p - y)) % p
+less-high p x y l g = let u : x + (p - y) < p = omega arith in sym (mod-eq-of-lt u)

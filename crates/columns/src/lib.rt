@@ -1,0 +1,191 @@
+// One column of a split, (Y − c)^m · B + P · A = E, by m divisions by Y − c with Horner's scheme: no derivative, no gcd, and nothing is
+// divided by but A(c). These trust their caller: they have a `requires`, and are for the crates of this repository. All are proved for
+// every modulus below 2^24.
+use numbers::kernel::inverse_of;
+use rows::kernel::passes;
+ghost use mathlib.Core.Path.{_≡_};
+ghost use Prim.Native.Nat.{_+_, _-_, _*_, _%_, _≤_, _<_};
+ghost use lib.ListN.{length, take};
+ghost use Rattle.algebra.specs.Fp.{Prime};
+ghost use Rattle.numbers.specs.Divisor.{inverseOf};
+ghost use Rattle.numbers.specs.Words.{word, over, tabulate, AllBelow};
+ghost use Rattle.rows.specs.Rows.{rowsOf};
+ghost use Rattle.columns.specs.Column.{firstOnly, hornerWords, lessMultiple, digits, lineTimes, undigits, middleSum, ColumnStored};
+
+// Horner's scheme at c, in place: word 0 becomes the value at c, the others the quotient by Y − c.
+pub fn horner(p: u32, c: u32, e: &mut [u32])
+    requires { ⌜ (1 ≤ p) × (p < 16777216) × (c < p) × (1 ≤ length (now e)) × AllBelow p (now e) ⌝ }
+    ensures { λ _. ⌜ now (e .exit) ≡ hornerWords p c (now (e .entry)) ⌝ }
+{
+    let mut j = e.len() - 1;
+    while 0 < j {
+        j -= 1;
+        e[j] = ((e[j] as u64 + (c as u64) * (e[j + 1] as u64)) % (p as u64)) as u32;
+    }
+}
+
+// e − q · a, in place.
+fn less_multiple(p: u32, q: u32, a: &[u32], e: &mut [u32])
+    requires { ⌜ (1 ≤ p) × (p < 16777216) × (q < p) × (length (now a) ≤ length (now e)) × AllBelow p (now a) × AllBelow p (now e) ⌝ }
+    ensures { λ _. ⌜ now (e .exit) ≡ lessMultiple p q (now (a .entry)) (now (e .entry)) ⌝ }
+{
+    let mut j = 0;
+    while j < a.len() {
+        let x = (q as u64) * (a[j] as u64) % (p as u64);
+        e[j] = ((e[j] as u64 + (p as u64 - x)) % (p as u64)) as u32;
+        j += 1;
+    }
+}
+
+// The next digit of e, in word 0, and in the others what is left: (e − q · A) / (Y − c), with q = e(c) / A(c).
+fn digit(p: u32, c: u32, inverse: u32, a: &[u32], e: &mut [u32])
+    requires { ⌜ (1 ≤ p) × (p < 16777216) × (c < p) × (inverse < p) × (length (now a) < length (now e)) × AllBelow p (now a) × AllBelow p (now e) ⌝ }
+    ensures { λ _. ⌜ now (e .exit) ≡ digits p c inverse (now (a .entry)) 1 (now (e .entry)) ⌝ }
+{
+    horner(p, c, e);
+    let q = ((e[0] as u64) * (inverse as u64) % (p as u64)) as u32;
+    e[0] = q;
+    less_multiple(p, q, a, &mut e[1..]);
+}
+
+// All m digits.
+fn all_digits(p: u32, c: u32, inverse: u32, a: &[u32], m: usize, e: &mut [u32])
+    requires { ⌜ (1 ≤ p) × (p < 16777216) × (c < p) × (inverse < p) × (m + length (now a) ≤ length (now e)) × AllBelow p (now a) × AllBelow p (now e) ⌝ }
+    ensures { λ _. ⌜ now (e .exit) ≡ digits p c inverse (now (a .entry)) m (now (e .entry)) ⌝ }
+{
+    let mut i = 0;
+    while i < m {
+        digit(p, c, inverse, a, &mut e[i..]);
+        i += 1;
+    }
+}
+
+// q + (Y − c) · r, in place, for the words q, r_0, r_1, ..
+pub fn line_times(p: u32, c: u32, e: &mut [u32])
+    requires { ⌜ (1 ≤ p) × (p < 16777216) × (c < p) × (1 ≤ length (now e)) × AllBelow p (now e) ⌝ }
+    ensures { λ _. ⌜ now (e .exit) ≡ lineTimes p c (now (e .entry)) ⌝ }
+{
+    let last = e.len() - 1;
+    let mut j = 0;
+    while j < last {
+        e[j] = ((e[j] as u64 + ((p - c) as u64) * (e[j + 1] as u64)) % (p as u64)) as u32;
+        j += 1;
+    }
+}
+
+// From digits to coefficients, in place: q_0 + q_1 · (Y − c) + q_2 · (Y − c)² + ..
+fn expand(p: u32, c: u32, e: &mut [u32])
+    requires { ⌜ (1 ≤ p) × (p < 16777216) × (c < p) × AllBelow p (now e) ⌝ }
+    ensures { λ _. ⌜ now (e .exit) ≡ undigits p c (now (e .entry)) ⌝ }
+{
+    let mut i = e.len();
+    while 0 < i {
+        i -= 1;
+        line_times(p, c, &mut e[i..]);
+    }
+}
+
+// A column E becomes P and, from word m on, B, with (Y − c)^m · B + P · A = E. `inverse` is 1 / A(c), and a the quotient of A by Y − c.
+pub fn solve(p: u32, c: u32, inverse: u32, a: &[u32], m: usize, e: &mut [u32])
+    requires { ⌜ (1 ≤ p) × (p < 16777216) × (c < p) × (inverse < p) × (m + length (now a) ≤ length (now e)) × AllBelow p (now a) × AllBelow p (now e) ⌝ }
+    ensures { λ _. ⌜ now (e .exit) ≡ over (undigits p c (take m (digits p c inverse (now (a .entry)) m (now (e .entry))))) (digits p c inverse (now (a .entry)) m (now (e .entry))) ⌝ }
+{
+    all_digits(p, c, inverse, a, m, e);
+    expand(p, c, &mut e[..m]);
+}
+
+// x − sum, reduced once.
+pub fn less(p: u32, x: u32, sum: u64) -> u32
+    requires { ⌜ (1 ≤ p) × (p < 16777216) × (x < p) ⌝ }
+    ensures { λ r. ⌜ r ≡ (x + (p - sum % p)) % p ⌝ }
+{
+    let y = (sum % (p as u64)) as u32;
+    if y <= x {
+        return x - y;
+    }
+    x + (p - y)
+}
+
+// Column t of f less the products of P's and A's columns between: what the columns t of P and A have to come to.
+pub fn gather(
+    p: u32,
+    f: &[u32],
+    low: &[u32],
+    m: usize,
+    high: &[u32],
+    k: usize,
+    n: usize,
+    t: usize,
+    e: &mut [u32],
+)
+    requires { ⌜ (1 ≤ p) × (p < 16777216) × (m ≤ 33) × (k ≤ 33) × (n ≤ 256) × (1 ≤ t) × (t < n) × (length (now low) ≡ m * n) × (length (now high) ≡ k * n)
+        × (length (now e) ≤ 33) × (length (now e) * n ≤ length (now f)) × AllBelow p (now f) × AllBelow p (now low) × AllBelow p (now high) ⌝ }
+    ensures { λ _. ⌜ now (e .exit) ≡ tabulate (length (now (e .entry)))
+        (λ j. (word (now (f .entry)) (j * n + t) + (p - middleSum (rowsOf (now (low .entry)) n m) (rowsOf (now (high .entry)) n k) j t % p)) % p) ⌝ }
+{
+    let mut j = 0;
+    while j < e.len() {
+        let sum = passes(low, m, high, k, n, j, 1, t - 1);
+        e[j] = less(p, f[j * n + t], sum);
+        j += 1;
+    }
+}
+
+// Column t of the rows in f.
+pub fn load_column(f: &[u32], n: usize, t: usize, e: &mut [u32])
+    requires { ⌜ (n ≤ 256) × (t < n) × (length (now e) ≤ 33) × (length (now e) * n ≤ length (now f)) ⌝ }
+    ensures { λ _. ⌜ now (e .exit) ≡ tabulate (length (now (e .entry))) (λ j. word (now (f .entry)) (j * n + t)) ⌝ }
+{
+    let mut j = 0;
+    while j < e.len() {
+        e[j] = f[j * n + t];
+        j += 1;
+    }
+}
+
+// Column t of the rows in out becomes e.
+pub fn store_column(e: &[u32], n: usize, t: usize, out: &mut [u32])
+    requires { ⌜ (n ≤ 256) × (t < n) × (length (now e) ≤ 33) × (length (now e) * n ≤ length (now out)) ⌝ }
+    ensures { λ _. ⌜ ColumnStored n t (now (e .entry)) (now (out .entry)) (now (out .exit)) ⌝ }
+{
+    let mut j = 0;
+    while j < e.len() {
+        out[j * n + t] = e[j];
+        j += 1;
+    }
+}
+
+// From A to what solving by it wants: 1 / A(c), and in the words from 1 on the quotient of A by Y − c.
+pub fn prepare(p: u32, c: u32, a: &mut [u32]) -> u32
+    requires { ⌜ Prime p × (p < 16777216) × (c < p) × (1 ≤ length (now a)) × AllBelow p (now a) × (1 ≤ word (hornerWords p c (now a)) 0) ⌝ }
+    ensures inverse { λ r. ⌜ r ≡ inverseOf p (word (hornerWords p c (now (a .entry))) 0) ⌝ }
+    ensures words { λ _. ⌜ now (a .exit) ≡ hornerWords p c (now (a .entry)) ⌝ }
+{
+    horner(p, c, a);
+    inverse_of(p, a[0])
+}
+
+// first, 0, 0, ..
+pub fn start_row(first: u32, row: &mut [u32])
+    requires { ⌜ 1 ≤ length (now row) ⌝ }
+    ensures { λ _. ⌜ now (row .exit) ≡ tabulate (length (now (row .entry))) (firstOnly first) ⌝ }
+{
+    row[0] = first;
+    let mut t = 1;
+    while t < row.len() {
+        row[t] = 0;
+        t += 1;
+    }
+}
+
+// The words, over the first of out.
+pub fn copy(words: &[u32], out: &mut [u32])
+    requires { ⌜ length (now words) ≤ length (now out) ⌝ }
+    ensures { λ _. ⌜ now (out .exit) ≡ over (now (words .entry)) (now (out .entry)) ⌝ }
+{
+    let mut i = 0;
+    while i < words.len() {
+        out[i] = words[i];
+        i += 1;
+    }
+}

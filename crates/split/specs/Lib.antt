@@ -1,0 +1,5 @@
+pub mod Factors
+pub mod Table
+pub mod Tile
+pub mod Weights
+pub mod Tiled
