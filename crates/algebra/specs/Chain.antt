@@ -118,11 +118,6 @@ module _ {R : Type 0} (𝓡 : CommRing R) where
   pub chain-tail : (r : ℕ) (c : ℕ → R) (m : ℕ → ℕ) (F : ℕ → ℕ → ℕ → R) → IsChain (suc r) c m F → IsChain r (λ i. c (suc i)) (λ i. m (suc i)) (λ i. F (suc i))
   chain-tail r c m F h = record { powers = λ i l. h .powers (suc i) (omega arith); first = λ i l. h .first (suc i) (omega arith); low = λ i l. h .low (suc i) (omega arith) }
 
-  -- the factors from i on
-  pub chain-drop : (i r : ℕ) (c : ℕ → R) (m : ℕ → ℕ) (F : ℕ → ℕ → ℕ → R) → IsChain r c m F → IsChain (r - i) (λ l. c (i +ₙ l)) (λ l. m (i +ₙ l)) (λ l. F (i +ₙ l))
-  chain-drop i r c m F h =
-      record { powers = λ l g. h .powers (i +ₙ l) (omega arith); first = λ l g. h .first (i +ₙ l) (omega arith); low = λ l g. h .low (i +ₙ l) (omega arith) }
-
   pub chain-at-zero : (r : ℕ) (c : ℕ → R) (m : ℕ → ℕ) (F : ℕ → ℕ → ℕ → R) → IsChain r c m F → prod (Columns 𝓡) r F zero ≡ at-zero r c m
   chain-at-zero r c m F h = prod-at-zero (Series 𝓡) r F ∙ prod-ext (Series 𝓡) r (h .first)
 
@@ -142,12 +137,6 @@ module _ {R : Type 0} (𝓡 : CommRing R) where
         → Factor 𝓡 c₀ m₀ (suc (sumTo r m)) P (prod (Columns 𝓡) r F)
     chain-factor c₀ m₀ P e l r c m F h ne =
         record { first = e; low = l; high = chain-monic r c m F h .bound; value = rw (chain-at-zero r c m F h) (at-zero-nonroot field r c m c₀ ne _ (at-zero-below r c m)) }
-
-    -- factor i with its cofactor
-    pub chain-cofactor : (r : ℕ) (c : ℕ → R) (m : ℕ → ℕ) (F : ℕ → ℕ → ℕ → R) → IsChain r c m F → ((i j : ℕ) → i < j → j < r → c i ≢ c j) → (i : ℕ) → i < r
-        → Factor 𝓡 (c i) (m i) (suc (sumTo (r - suc i) (λ l. m (suc i +ₙ l)))) (F i) (prodFrom (Columns 𝓡) (suc i) r F)
-    chain-cofactor r c m F h ne i l =
-        chain-factor (c i) (m i) (F i) (h .first i l) (h .low i l) (r - suc i) _ _ _ (chain-drop (suc i) r c m F h) (λ j g. ne i (suc i +ₙ j) (omega arith) (omega arith))
 
   -- existence
   pub record Lifted (r : ℕ) (c : ℕ → R) (m : ℕ → ℕ) (f : ℕ → ℕ → R) : Type 0 where

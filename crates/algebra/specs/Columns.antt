@@ -30,10 +30,6 @@ module _ {R : Type 0} (𝓡 : CommRing R) where
   pub mul-rows-sum : (f g : ℕ → ℕ → R) (t j : ℕ) → Columns .mul f g t j ≡ sum 𝓡 (λ i. sum 𝓡 (λ s. f s i * g (t - s) (j - i)) t) j
   mul-rows-sum f g t j = mul-columns-sum f g t j ∙ sum-swap 𝓡 (λ s i. f s i * g (t - s) (j - i)) t j
 
-  -- rows and columns may change places in both factors
-  pub mul-transpose : (f g : ℕ → ℕ → R) (t j : ℕ) → Columns .mul f g t j ≡ Columns .mul (λ i s. f s i) (λ i s. g s i) j t
-  mul-transpose f g t j = mul-rows-sum f g t j ∙ sym (mul-columns-sum (λ i s. f s i) (λ i s. g s i) j t)
-
   -- the degree in Y of a column of a product
   pub conv-below : (n k t : ℕ) (a b : ℕ → ℕ → R) → ((i : ℕ) → i ≤ t → Below 𝓡 n (a i)) → ((i : ℕ) → i ≤ t → Below 𝓡 (suc k) (b i)) → Below 𝓡 (n +ₙ k) (conv (Series 𝓡) a b t)
   conv-below n k zero a b h g = rw conv-zero (below-low 𝓡 n k (a zero) (b zero) (h zero (omega arith)) (g zero (omega arith)))

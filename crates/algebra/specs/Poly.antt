@@ -254,9 +254,6 @@ module _ {R : Type 0} (𝓡 : CommRing R) where
   pub poly-mul : {a b : ℕ → R} → Poly a → Poly b → Poly (a ⊛ b)
   poly-mul {a} {b} h g = (h .0 +ₙ g .0, below-mul (h .0) (g .0) a b (h .1) (g .1))
 
-  pub poly-𝟘 : Poly 𝟘ₛ
-  poly-𝟘 = (zero, below-𝟘)
-
   pub poly-const : (x : R) → Poly (const x)
   poly-const x = (1, below-const x)
 

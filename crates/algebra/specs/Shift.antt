@@ -95,9 +95,6 @@ module _ {R : Type 0} (𝓡 : CommRing R) where
         ∙ ap₂ (λ x y. x ⊕ M ⊛ y) (ap K (add-at 𝓡 a b zero) ∙ const-add 𝓡 (a zero) (b zero)) (ap (shift c n) (tail-add 𝓡 a b) ∙ shift-add n (tail a) (tail b))
         ∙ regroup (Series 𝓡) (K (a zero)) (K (b zero)) M (shift c n (tail a)) (shift c n (tail b)) ∙ ap₂ _⊕_ (sym (shift-suc n a)) (sym (shift-suc n b))
 
-    pub shift-neg : (n : ℕ) (a : ℕ → R) → shift c n (⊖ a) ≡ ⊖ (shift c n a)
-    shift-neg n a = sym (neg-unique (Series 𝓡) (sym (shift-add n a (⊖ a)) ∙ ap (shift c n) (add-neg (Series 𝓡) a) ∙ shift-𝟘 n))
-
     pub shift-scale : (n : ℕ) (x : R) (a : ℕ → R) → shift c n (const 𝓡 x ⊛ a) ≡ const 𝓡 x ⊛ shift c n a
     shift-scale zero x a = simp (shift-zero, units)
     shift-scale (suc n) x a =

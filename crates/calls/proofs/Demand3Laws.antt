@@ -21,17 +21,17 @@ use Rattle.numbers.specs.Refusals.{refusal, Outcome, accepted, refused, result,
 use Rattle.numbers.specs.declared.refusal.Verdict.{Verdict}
 use Rattle.numbers.specs.declared.refusal.Verdict.the-variants.{Pass, Refuse}
 use Rattle.numbers.proofs.WordsLaws.{lt-or-ge}
-use Rattle.sheet.specs.Layout.{modulus, end}
+use Rattle.layout.specs.Layout.{modulus, end}
 use Rattle.sheet.specs.Sheet.{Sound, Given, Holds}
 use Rattle.open.specs.Open.{needed, openVerdict, OpenDone, Opened}
-use Rattle.lift.specs.Extend.{extendVerdict, ExtendDone, Extended}
+use Rattle.extend.specs.Extend.{extendVerdict, ExtendDone, Extended}
 use Rattle.calls.specs.Calls.{Call, Run, done, call, countAnswer, countNext, countAnswers, countTerms, History, worked, Kept, Agree, Demand3}
 use Rattle.sheet.proofs.ContentLaws.{contentOf}
 use Rattle.sheet.proofs.SheetsLaws.{sound-good, end-ext}
 use Rattle.sheet.proofs.UniqueLaws.{good-lists, good-polynomials, holds-unique}
 use Rattle.sheet.proofs.HoldsLaws.{holds-ext}
-use Rattle.lift.proofs.ExtendingLaws.{extend-end, extend-holds}
-use Rattle.lift.proofs.ExtendTotalLaws.{extend-spoiled, extend-beyond, extend-behind, extend-reached}
+use Rattle.extend.proofs.ExtendingLaws.{extend-end, extend-holds}
+use Rattle.extend.proofs.ExtendTotalLaws.{extend-spoiled, extend-beyond, extend-behind, extend-reached}
 
 -- the plain count, step by step
 module _ (T N K n w : ℕ) where

@@ -26,7 +26,7 @@ use Rattle.numbers.proofs.TestsLaws.{allTo-at}
 use Rattle.numbers.proofs.RefusalsLaws.{take-check, skip-check, none-judged, pass-check}
 use Rattle.sheet.specs.Sheet.{Given}
 use Rattle.open.specs.Open.{Opened}
-use Rattle.lift.specs.Extend.{Extended, extendVerdict, ExtendDone}
+use Rattle.extend.specs.Extend.{Extended, extendVerdict, ExtendDone}
 use Rattle.calls.specs.Calls.{Call, Run, done, call}
 use Rattle.calls.specs.Replay.{callsTo, answerPair, answerWords, lendable, replayVerdict, Counted, ReplayDone, ReplayLeaves, Replayed, putAnswer, CallsMade}
 use Rattle.calls.proofs.Demand3Laws.{demand3-kept}

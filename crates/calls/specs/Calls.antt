@@ -14,11 +14,11 @@ use lib.Dec.{ltb}
 use lib.ListN.{length, take, drop}
 use Rattle.numbers.specs.Words.{choose, outside}
 use Rattle.numbers.specs.Refusals.{Outcome, accepted, refused}
-use Rattle.split.specs.Factors.{SameFactors, SamePolynomial}
-use Rattle.sheet.specs.Layout.{count, root, power, factor, end}
-use Rattle.sheet.specs.Sheet.{Given, given-polynomial, Holds}
+use Rattle.hensel.specs.Factors.{SameFactors, SamePolynomial}
+use Rattle.layout.specs.Layout.{count, root, power, factor, end}
+use Rattle.sheet.specs.Sheet.{Given, given-reach, given-polynomial, Holds}
 use Rattle.open.specs.Open.{Opened}
-use Rattle.lift.specs.Extend.{Extended}
+use Rattle.extend.specs.Extend.{Extended}
 
 -- "Each call names a w, and is lent the slice from word 0, whole or only its first words."
 pub record Call : Type 0 where
@@ -32,11 +32,11 @@ pub data Run : List ℕ → List Call → List (Outcome ℕ) → List ℕ → Ty
   call : {s part last : List ℕ} {c : Call} {cs : List Call} {a : Outcome ℕ} {answers : List (Outcome ℕ)}
       → c .lent ≤ length s → Extended (take (c .lent) s) (c .goal) a part → Run (part ++ drop (c .lent) s) cs answers last → Run s (c ∷ cs) (a ∷ answers) last
 
--- "A call's step is the first of these that fits": T and N are what open was given, K is the state.
-unfoldable pub countAnswer : (T N K : ℕ) → Call → Outcome ℕ
-countAnswer T N K c =
+-- "A call's step is the first of these that fits": T, and the most terms that there can be, come from what open was given; K is the state.
+unfoldable pub countAnswer : (T most K : ℕ) → Call → Outcome ℕ
+countAnswer T most K c =
     choose (ltb (c .lent) T) (refused 13 0)
-    (choose (outside 1 N (c .goal)) (refused 14 0)
+    (choose (outside 1 most (c .goal)) (refused 14 0)
     (choose (ltb (c .goal) K) (refused 15 0)
     (accepted (c .goal))))
 
@@ -45,13 +45,13 @@ abbrev pub countNext : ℕ → Outcome ℕ → ℕ
 countNext K (accepted w) = w
 countNext K (refused n d) = K
 
-unfoldable pub countAnswers : (T N K : ℕ) → List Call → List (Outcome ℕ)
-countAnswers T N K [] = []
-countAnswers T N K (c ∷ cs) = countAnswer T N K c ∷ countAnswers T N (countNext K (countAnswer T N K c)) cs
+unfoldable pub countAnswers : (T most K : ℕ) → List Call → List (Outcome ℕ)
+countAnswers T most K [] = []
+countAnswers T most K (c ∷ cs) = countAnswer T most K c ∷ countAnswers T most (countNext K (countAnswer T most K c)) cs
 
-unfoldable pub countTerms : (T N K : ℕ) → List Call → ℕ
-countTerms T N K [] = K
-countTerms T N K (c ∷ cs) = countTerms T N (countNext K (countAnswer T N K c)) cs
+unfoldable pub countTerms : (T most K : ℕ) → List Call → ℕ
+countTerms T most K [] = K
+countTerms T most K (c ∷ cs) = countTerms T most (countNext K (countAnswer T most K c)) cs
 
 -- "Two factor lists agree below X^j when they have the same r and, for each i, the same root, the same power and the same columns 0..j−1 in
 -- each lower row."
@@ -76,12 +76,12 @@ pub record History : Type 0 where
 
 -- "Its state is one number K, at first 1 .. K is the number of terms worked."
 abbrev pub worked : History → ℕ
-worked x = countTerms (x .T) (x .given .N) 1 (x .calls)
+worked x = countTerms (x .T) (given-reach (x .given)) 1 (x .calls)
 
 -- Demand 3 ("What demand 3 compares"), of one history ..
 pub record Kept (x : History) : Type 0 where
   -- "Every call's answer is the plain count's."
-  pub answers : x .answers ≡ countAnswers (x .T) (x .given .N) 1 (x .calls)
+  pub answers : x .answers ≡ countAnswers (x .T) (given-reach (x .given)) 1 (x .calls)
   -- "After the list, words 0..T−1 are those of the one sound sheet that holds what open was given with k = K ..
   pub holds : Holds (x .given) (worked x) (x .last)
   pub fills : end (x .last) ≡ x .T

@@ -15,7 +15,7 @@ use Rattle.numbers.specs.Words.{word, lowWord, allTo, over}
 use Rattle.numbers.specs.Refusals.{Check, check, judge, Outcome, accepted, refused, result}
 use Rattle.numbers.specs.declared.refusal.Verdict.{Verdict}
 use Rattle.numbers.specs.declared.refusal.Verdict.the-variants.{Pass, Refuse}
-use Rattle.sheet.specs.Sheet.{Given, Holds}
+use Rattle.sheet.specs.Sheet.{Given, given-reach, Holds}
 use Rattle.open.specs.Open.{Opened}
 use Rattle.calls.specs.Calls.{Call, Run, countAnswers, countTerms}
 
@@ -47,9 +47,9 @@ replayVerdict size lent goals room = judge (replayChecks size lent goals room)
 
 -- the first half of demand 3, for a sheet that an accepted open has just written
 pub record Counted (g : Given) (T : ℕ) (cs : List Call) (start last old new : List ℕ) : Type 0 where
-  pub answers : new ≡ over (answerWords (countAnswers T (g .N) 1 cs)) old
-  pub holds : Holds g (countTerms T (g .N) 1 cs) last
-  pub only : (s : List ℕ) → Holds g (countTerms T (g .N) 1 cs) s → take T s ≡ take T last
+  pub answers : new ≡ over (answerWords (countAnswers T (given-reach g) 1 cs)) old
+  pub holds : Holds g (countTerms T (given-reach g) 1 cs) last
+  pub only : (s : List ℕ) → Holds g (countTerms T (given-reach g) 1 cs) s → take T s ≡ take T last
   pub rest : drop T last ≡ drop T start
 
 pub record ReplayDone (cs : List Call) (start last old new : List ℕ) : Type 0 where

@@ -30,7 +30,7 @@ fn lend(lent: &[u32], size: usize) -> bool
     true
 }
 
-// Rows 5 and 10.
+// Refusals 5 and 10.
 fn check_calls(size: usize, lent: &[u32], goals: &[u32], room: usize) -> Verdict
     ensures { λ r. ⌜ r ≡ replayVerdict size (now (lent .entry)) (now (goals .entry)) room ⌝ }
 {
@@ -74,7 +74,7 @@ fn make_calls(lent: &[u32], goals: &[u32], sheet: &mut [u32], answers: &mut [u32
     let mut i = 0;
     while i < lent.len() {
         let words = lent[i] as usize;
-        let answer = lift::extend(&mut sheet[..words], goals[i]);
+        let answer = extend::extend(&mut sheet[..words], goals[i]);
         put_answer(answer, i, answers);
         i += 1;
     }

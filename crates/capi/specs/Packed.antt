@@ -6,7 +6,7 @@
 use Prim.Native.Nat.{ℕ, _+_, _*_}
 use mathlib.Core.Path.{_≡_}
 use Rattle.numbers.specs.Refusals.{Outcome, accepted, refused}
-use Rattle.numbers.specs.declared.number.Number.{Number}
+use Rattle.residues.specs.declared.Number.{Number}
 
 unfoldable pub packed : Outcome ℕ → ℕ
 packed (accepted a) = a

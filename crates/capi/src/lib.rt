@@ -1,9 +1,9 @@
 // The engine for C and Rust: every public operation under a plain name. A slice is a pointer and a count; the result is the outcome in 64 bits.
-use numbers::number::Number;
-use numbers::number::NumberAnswer;
 use numbers::refusal::Answer;
 use numbers::refusal::Refusal;
 use numbers::refusal::Verdict;
+use residues::Number;
+use residues::NumberAnswer;
 ghost use mathlib.Core.Path.{_≡_};
 ghost use mathlib.Core.Bool.{cond};
 ghost use mathlib.Core.List.{[], _∷_};
@@ -11,13 +11,13 @@ ghost use Prim.Native.Nat.{_+_, _*_};
 ghost use lib.ListN.{length};
 ghost use Rattle.numbers.specs.Words.{over, lowWord};
 ghost use Rattle.numbers.specs.Refusals.{judge, outcome, refused, result, written, Leaves};
-ghost use Rattle.numbers.specs.Number.{numberOutcome, sumOf, differenceOf, productOf, inverseNumber};
+ghost use Rattle.residues.specs.Number.{numberOutcome, sumOf, differenceOf, productOf, inverseNumber};
 ghost use Rattle.series.specs.Series.{seriesChecks, inverseChecks, quotientChecks, sums, differences, product, quotient};
-ghost use Rattle.rows.specs.Rows.{rowsChecks, multiplyChecks, shiftChecks, rowProduct, rowShift};
+ghost use Rattle.rows.specs.Rows.{rowsChecks, productChecks, shiftChecks, rowProduct, rowShift};
 ghost use Rattle.pair.specs.Pair.{pairChecks, continueChecks, order, PairDone};
-ghost use Rattle.sheet.specs.Sheet.{Given, soundTest};
+ghost use Rattle.sheet.specs.Sheet.{Given, soundTest, givenOf};
 ghost use Rattle.open.specs.Open.{openVerdict, needed, OpenDone};
-ghost use Rattle.lift.specs.Extend.{extendVerdict, ExtendDone};
+ghost use Rattle.extend.specs.Extend.{extendVerdict, ExtendDone};
 ghost use Rattle.calls.specs.Replay.{callsTo, replayVerdict, ReplayLeaves};
 ghost use Rattle.listing.specs.Listing.{Listed};
 ghost use Rattle.capi.specs.Packed.{packed, packedNumber, Packs};
@@ -101,7 +101,7 @@ pub extern "C" fn bk_series_product(p: u32, n: u32, g: &[u32], h: &[u32], out: &
     ensures words { λ _. ⌜ now (out .exit) ≡ written (judge (seriesChecks p n (now (g .entry)) (now (h .entry)) (length (now (out .entry)))))
         (over (product p n (now (g .entry)) (now (h .entry))) (now (out .entry))) (now (out .entry)) ⌝ }
 {
-    pack(series::multiply(p, n, g, h, out))
+    pack(series::product(p, n, g, h, out))
 }
 
 #[no_mangle]
@@ -110,7 +110,7 @@ pub extern "C" fn bk_series_quotient(p: u32, n: u32, g: &[u32], h: &[u32], out: 
     ensures words { λ _. ⌜ now (out .exit) ≡ written (judge (quotientChecks p n (now (g .entry)) (now (h .entry)) (length (now (out .entry)))))
         (over (quotient p n (now (g .entry)) (now (h .entry))) (now (out .entry))) (now (out .entry)) ⌝ }
 {
-    pack(series::divide(p, n, g, h, out))
+    pack(series::quotient(p, n, g, h, out))
 }
 
 #[no_mangle]
@@ -119,7 +119,7 @@ pub extern "C" fn bk_series_inverse(p: u32, n: u32, g: &[u32], out: &mut [u32]) 
     ensures words { λ _. ⌜ now (out .exit) ≡ written (judge (inverseChecks p n (now (g .entry)) (length (now (out .entry)))))
         (over (quotient p n (1 ∷ []) (now (g .entry))) (now (out .entry))) (now (out .entry)) ⌝ }
 {
-    pack(series::invert(p, n, g, out))
+    pack(series::inverse(p, n, g, out))
 }
 
 #[no_mangle]
@@ -157,11 +157,11 @@ pub extern "C" fn bk_rows_product(
     g: &[u32],
     out: &mut [u32],
 ) -> u64
-    ensures answer { λ r. ⌜ r ≡ packed (result (judge (multiplyChecks p d1 d2 n (now (f .entry)) (now (g .entry)) (length (now (out .entry))))) ((d1 + d2 + 1) * n)) ⌝ }
-    ensures words { λ _. ⌜ now (out .exit) ≡ written (judge (multiplyChecks p d1 d2 n (now (f .entry)) (now (g .entry)) (length (now (out .entry)))))
+    ensures answer { λ r. ⌜ r ≡ packed (result (judge (productChecks p d1 d2 n (now (f .entry)) (now (g .entry)) (length (now (out .entry))))) ((d1 + d2 + 1) * n)) ⌝ }
+    ensures words { λ _. ⌜ now (out .exit) ≡ written (judge (productChecks p d1 d2 n (now (f .entry)) (now (g .entry)) (length (now (out .entry)))))
         (over (rowProduct p d1 d2 n (now (f .entry)) (now (g .entry))) (now (out .entry))) (now (out .entry)) ⌝ }
 {
-    pack(rows::multiply(p, d1, d2, n, f, g, out))
+    pack(rows::product(p, d1, d2, n, f, g, out))
 }
 
 #[no_mangle]
@@ -207,11 +207,11 @@ pub extern "C" fn bk_sheet_open(
     out: &mut [u32],
 ) -> u64
     ensures answer { λ r. ⌜
-        (let g : Given = record { p = p; D = d; N = n; rows = now (f .entry); roots = now (roots .entry) } in
+        (let g : Given = givenOf p d n (now (f .entry)) (now (roots .entry)) in
         r ≡ packed (result (openVerdict g (length (now (out .entry)))) (needed g)))
         ⌝ }
     ensures words { λ _. ⌜
-        (let g : Given = record { p = p; D = d; N = n; rows = now (f .entry); roots = now (roots .entry) } in
+        (let g : Given = givenOf p d n (now (f .entry)) (now (roots .entry)) in
         Leaves (openVerdict g (length (now (out .entry)))) (OpenDone g (now (out .entry)) (now (out .exit)) (needed g)) (now (out .entry)) (now (out .exit)))
         ⌝ }
 {
@@ -223,7 +223,7 @@ pub extern "C" fn bk_sheet_extend(sheet: &mut [u32], w: u32) -> u64
     ensures answer { λ r. ⌜ r ≡ packed (result (extendVerdict (now (sheet .entry)) w) w) ⌝ }
     ensures words { λ _. ⌜ Leaves (extendVerdict (now (sheet .entry)) w) (ExtendDone (now (sheet .entry)) w (now (sheet .exit))) (now (sheet .entry)) (now (sheet .exit)) ⌝ }
 {
-    pack(lift::extend(sheet, w))
+    pack(extend::extend(sheet, w))
 }
 
 // 1 for a sound sheet.

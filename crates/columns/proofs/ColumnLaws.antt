@@ -12,15 +12,13 @@ use lib.Seq.{ext-getD, getD-append-add, getD-drop, getD-take, getD-set-same, get
 use Rattle.numbers.specs.Words.{word, tabulate, over, AllBelow}
 use Rattle.rows.specs.Rows.{rowsOf}
 use Rattle.numbers.proofs.WordsLaws.{lt-or-ge, length-tabulate, word-tabulate, tabulate-below, length-over, over-whole, Writing, writing-next, over-past, writing-past, from, from-is, length-from, from-below}
+use Rattle.numbers.specs.Limits.{modulusBound}
+use Rattle.rows.proofs.RowsLaws.{row-fits}
 use Rattle.columns.specs.Column.{hornerWord, hornerWords, lessMultiple, digits, lineTimes, undigits, ColumnStored, middleSum, firstOnly}
 
 -- a number below 2^24 times a word
-pub product-fits : (a b : ℕ) → a < 16777216 → b < 4294967296 → a * b ≤ 16777215 * 4294967295
+pub product-fits : (a b : ℕ) → a < modulusBound → b < 4294967296 → a * b ≤ 16777215 * 4294967295
 product-fits a b h g = mul-le-mul {n₂ = 16777215} {m₂ = 4294967295} (omega arith) (omega arith)
-
--- a row ends before the next begins
-pub row-before : (i j N : ℕ) → i < j → i * N + N ≤ j * N
-row-before i j N l = omega (arith, mul-le-mul {n₁ = suc i} {m₁ = N} {n₂ = j} {m₂ = N} l (le-refl N))
 
 -- A list that a loop writes from its end down to word j: from there on the words are those of f, before it the old ones.
 pub record Sinking (f : ℕ → ℕ) (s e : List ℕ) (j : ℕ) : Type 0 where
@@ -120,7 +118,7 @@ stored-next N t e old new j g h room w =
     let v = word e j in
     let n₀ : length (take j e) ≡ j = length-take-le j e (omega arith) in
     let n₁ : length (take (j + 1) e) ≡ j + 1 = length-take-le (j + 1) e (omega arith) in
-    let fits : j * N + N ≤ length old = omega (arith, row-before j (length e) N h) in
+    let fits : j * N + N ≤ length old = omega (arith, row-fits j (length e) N h) in
     let lo : length (take j e) * N ≡ j * N = ap (λ (x : ℕ). x * N) n₀ in
     record {
       long = length-set new (j * N + t) v ∙ w .long;
@@ -128,14 +126,14 @@ stored-next N t e old new j g h room w =
           ⊎-elim
           (λ (x : i ≡ j). rw x (getD-set-same new (j * N + t) v 0 (omega (arith, w .long)) ∙ sym (getD-take (j + 1) e j 0 (omega arith))))
           (λ (x : i < j).
-          getD-set-other new (j * N + t) (i * N + t) v 0 (λ (y : i * N + t ≡ j * N + t). omega (arith, row-before i j N x))
+          getD-set-other new (j * N + t) (i * N + t) v 0 (λ (y : i * N + t ≡ j * N + t). omega (arith, row-fits i j N x))
           ∙ w .here i (omega arith) ∙ getD-take j e i 0 x ∙ sym (getD-take (j + 1) e i 0 (omega arith)))
           (eq-or-lt-of-le {n = i} {m = j} (omega arith));
       others = λ i l s k ne.
           ⊎-elim
           (λ (x : i ≡ j). rw x (getD-set-other new (j * N + t) (j * N + s) v 0 (λ (y : j * N + s ≡ j * N + t). ne (omega arith)) ∙ w .rest (j * N + s) (omega arith)))
           (λ (x : i < j).
-          getD-set-other new (j * N + t) (i * N + s) v 0 (λ (y : i * N + s ≡ j * N + t). omega (arith, row-before i j N x))
+          getD-set-other new (j * N + t) (i * N + s) v 0 (λ (y : i * N + s ≡ j * N + t). omega (arith, row-fits i j N x))
           ∙ w .others i (omega arith) s k ne)
           (eq-or-lt-of-le {n = i} {m = j} (omega arith));
       rest = λ i l.

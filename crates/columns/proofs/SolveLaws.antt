@@ -18,7 +18,7 @@ use Rattle.algebra.specs.Bridge.{rem-eq, rem-zero, rem-one, neg-rem, sub-rem, c
 use Rattle.numbers.specs.Words.{word, over, AllBelow}
 use Rattle.numbers.proofs.WordsLaws.{lt-or-ge, length-over}
 use Rattle.rows.specs.Rows.{mul, linePower}
-use Rattle.rows.proofs.ShiftLaws.{line-power as line-plus}
+use Rattle.rows.proofs.ShiftLaws.{root-power}
 use Rattle.rows.specs.Passes.{passSum}
 use Rattle.columns.specs.Column.{hornerWord, hornerWords, lessMultiple, digits, lineTimes, undigits, times, lowPart, highPart, Solves}
 use Rattle.columns.proofs.ColumnLaws.{horner-word-suc, horner-word-none, horner-word-rest, horner-words-at, line-words-at, less-words-at, over-below, length-horner, length-undigits, undigits-below, undigits-cons, undigits-none, length-left, length-digits, digits-below, digits-zero, digits-suc, digitOf, leftOf}
@@ -110,10 +110,6 @@ module _ (p : ℕ) (pos : zero < p) where
         ∙ sym (add-at K (const K (q d)) (lin K (q c) ⊛ pol r) (suc t) ∙ ap₂ _⊹_ (const-coeff-suc K (q d) t) (lin-mul-suc K (q c) (pol r) t) ∙ zero-add K _)
   ])
 
-  -- (Y − c)^m
-  pub line-power : (c : ℕ) → c < p → (m : ℕ) → poly (linePower p (p - c) m) ≡ linPow K (q c) m
-  line-power c h m = line-plus p pos (p - c) m ∙ ap (λ x. linPow K x m) (ap neg (sym (neg-rem p pos c h)) ∙ neg-neg K (q c))
-
   -- A(c) is a unit, and a is the quotient of A by Y − c
   module _ (c : ℕ) (h : c < p) (A : ℕ → ℕ) (k : ℕ) (top : (j : ℕ) → k ≤ j → A j ≡ 0) (a : List ℕ) (size : length a + 1 ≡ k)
       (quotient : (j : ℕ) → j < length a → word a j ≡ hornerWord p c (k - (j + 1)) A (j + 1)) (w : ℕ) (unit : q (w * hornerWord p c k A 0) ≡ 𝟙) where
@@ -173,7 +169,7 @@ module _ (p : ℕ) (pos : zero < p) where
           same = λ j. rem-eq p pos _ _ .0
               (sym (rem-add p pos (times f (highPart m R) j) (times (lowPart m R) A j))
               ∙ ap₂ _⊹_
-              (conv-rem p pos f (highPart m R) j ∙ ap₂ (λ x s. conv K x (pol s) j) (line-power c h m) high ∙ sym (mul-at K (linPow K (q c) m) (pol (drop m D)) j))
+              (conv-rem p pos f (highPart m R) j ∙ ap₂ (λ x s. conv K x (pol s) j) (root-power p pos c h m) high ∙ sym (mul-at K (linPow K (q c) m) (pol (drop m D)) j))
               (conv-rem p pos (lowPart m R) A j ∙ ap (λ s. conv K (pol s) (poly A) j) low ∙ sym (mul-at K (pol P) (poly A) j))
               ∙ sym (add-at K (linPow K (q c) m ⊛ pol (drop m D)) (pol P ⊛ poly A) j)
               ∙ ap (λ x. x j) (digits-solve m E l));

@@ -9,12 +9,13 @@ ghost use lib.ListN.{length, take};
 ghost use Rattle.algebra.specs.Fp.{Prime};
 ghost use Rattle.numbers.specs.Divisor.{inverseOf};
 ghost use Rattle.numbers.specs.Words.{word, over, tabulate, AllBelow};
+ghost use Rattle.numbers.specs.Limits.{modulusBound, mostRows, largestWidth};
 ghost use Rattle.rows.specs.Rows.{rowsOf};
 ghost use Rattle.columns.specs.Column.{firstOnly, hornerWords, lessMultiple, digits, lineTimes, undigits, middleSum, ColumnStored};
 
 // Horner's scheme at c, in place: word 0 becomes the value at c, the others the quotient by Y − c.
 pub fn horner(p: u32, c: u32, e: &mut [u32])
-    requires { ⌜ (1 ≤ p) × (p < 16777216) × (c < p) × (1 ≤ length (now e)) × AllBelow p (now e) ⌝ }
+    requires { ⌜ (1 ≤ p) × (p < modulusBound) × (c < p) × (1 ≤ length (now e)) × AllBelow p (now e) ⌝ }
     ensures { λ _. ⌜ now (e .exit) ≡ hornerWords p c (now (e .entry)) ⌝ }
 {
     let mut j = e.len() - 1;
@@ -26,7 +27,7 @@ pub fn horner(p: u32, c: u32, e: &mut [u32])
 
 // e − q · a, in place.
 fn less_multiple(p: u32, q: u32, a: &[u32], e: &mut [u32])
-    requires { ⌜ (1 ≤ p) × (p < 16777216) × (q < p) × (length (now a) ≤ length (now e)) × AllBelow p (now a) × AllBelow p (now e) ⌝ }
+    requires { ⌜ (1 ≤ p) × (p < modulusBound) × (q < p) × (length (now a) ≤ length (now e)) × AllBelow p (now a) × AllBelow p (now e) ⌝ }
     ensures { λ _. ⌜ now (e .exit) ≡ lessMultiple p q (now (a .entry)) (now (e .entry)) ⌝ }
 {
     let mut j = 0;
@@ -39,7 +40,7 @@ fn less_multiple(p: u32, q: u32, a: &[u32], e: &mut [u32])
 
 // The next digit of e, in word 0, and in the others what is left: (e − q · A) / (Y − c), with q = e(c) / A(c).
 fn digit(p: u32, c: u32, inverse: u32, a: &[u32], e: &mut [u32])
-    requires { ⌜ (1 ≤ p) × (p < 16777216) × (c < p) × (inverse < p) × (length (now a) < length (now e)) × AllBelow p (now a) × AllBelow p (now e) ⌝ }
+    requires { ⌜ (1 ≤ p) × (p < modulusBound) × (c < p) × (inverse < p) × (length (now a) < length (now e)) × AllBelow p (now a) × AllBelow p (now e) ⌝ }
     ensures { λ _. ⌜ now (e .exit) ≡ digits p c inverse (now (a .entry)) 1 (now (e .entry)) ⌝ }
 {
     horner(p, c, e);
@@ -50,7 +51,7 @@ fn digit(p: u32, c: u32, inverse: u32, a: &[u32], e: &mut [u32])
 
 // All m digits.
 fn all_digits(p: u32, c: u32, inverse: u32, a: &[u32], m: usize, e: &mut [u32])
-    requires { ⌜ (1 ≤ p) × (p < 16777216) × (c < p) × (inverse < p) × (m + length (now a) ≤ length (now e)) × AllBelow p (now a) × AllBelow p (now e) ⌝ }
+    requires { ⌜ (1 ≤ p) × (p < modulusBound) × (c < p) × (inverse < p) × (m + length (now a) ≤ length (now e)) × AllBelow p (now a) × AllBelow p (now e) ⌝ }
     ensures { λ _. ⌜ now (e .exit) ≡ digits p c inverse (now (a .entry)) m (now (e .entry)) ⌝ }
 {
     let mut i = 0;
@@ -62,7 +63,7 @@ fn all_digits(p: u32, c: u32, inverse: u32, a: &[u32], m: usize, e: &mut [u32])
 
 // q + (Y − c) · r, in place, for the words q, r_0, r_1, ..
 pub fn line_times(p: u32, c: u32, e: &mut [u32])
-    requires { ⌜ (1 ≤ p) × (p < 16777216) × (c < p) × (1 ≤ length (now e)) × AllBelow p (now e) ⌝ }
+    requires { ⌜ (1 ≤ p) × (p < modulusBound) × (c < p) × (1 ≤ length (now e)) × AllBelow p (now e) ⌝ }
     ensures { λ _. ⌜ now (e .exit) ≡ lineTimes p c (now (e .entry)) ⌝ }
 {
     let last = e.len() - 1;
@@ -75,7 +76,7 @@ pub fn line_times(p: u32, c: u32, e: &mut [u32])
 
 // From digits to coefficients, in place: q_0 + q_1 · (Y − c) + q_2 · (Y − c)² + ..
 fn expand(p: u32, c: u32, e: &mut [u32])
-    requires { ⌜ (1 ≤ p) × (p < 16777216) × (c < p) × AllBelow p (now e) ⌝ }
+    requires { ⌜ (1 ≤ p) × (p < modulusBound) × (c < p) × AllBelow p (now e) ⌝ }
     ensures { λ _. ⌜ now (e .exit) ≡ undigits p c (now (e .entry)) ⌝ }
 {
     let mut i = e.len();
@@ -87,7 +88,7 @@ fn expand(p: u32, c: u32, e: &mut [u32])
 
 // A column E becomes P and, from word m on, B, with (Y − c)^m · B + P · A = E. `inverse` is 1 / A(c), and a the quotient of A by Y − c.
 pub fn solve(p: u32, c: u32, inverse: u32, a: &[u32], m: usize, e: &mut [u32])
-    requires { ⌜ (1 ≤ p) × (p < 16777216) × (c < p) × (inverse < p) × (m + length (now a) ≤ length (now e)) × AllBelow p (now a) × AllBelow p (now e) ⌝ }
+    requires { ⌜ (1 ≤ p) × (p < modulusBound) × (c < p) × (inverse < p) × (m + length (now a) ≤ length (now e)) × AllBelow p (now a) × AllBelow p (now e) ⌝ }
     ensures { λ _. ⌜ now (e .exit) ≡ over (undigits p c (take m (digits p c inverse (now (a .entry)) m (now (e .entry))))) (digits p c inverse (now (a .entry)) m (now (e .entry))) ⌝ }
 {
     all_digits(p, c, inverse, a, m, e);
@@ -96,7 +97,7 @@ pub fn solve(p: u32, c: u32, inverse: u32, a: &[u32], m: usize, e: &mut [u32])
 
 // x − sum, reduced once.
 pub fn less(p: u32, x: u32, sum: u64) -> u32
-    requires { ⌜ (1 ≤ p) × (p < 16777216) × (x < p) ⌝ }
+    requires { ⌜ (1 ≤ p) × (p < modulusBound) × (x < p) ⌝ }
     ensures { λ r. ⌜ r ≡ (x + (p - sum % p)) % p ⌝ }
 {
     let y = (sum % (p as u64)) as u32;
@@ -118,8 +119,8 @@ pub fn gather(
     t: usize,
     e: &mut [u32],
 )
-    requires { ⌜ (1 ≤ p) × (p < 16777216) × (m ≤ 33) × (k ≤ 33) × (n ≤ 256) × (1 ≤ t) × (t < n) × (length (now low) ≡ m * n) × (length (now high) ≡ k * n)
-        × (length (now e) ≤ 33) × (length (now e) * n ≤ length (now f)) × AllBelow p (now f) × AllBelow p (now low) × AllBelow p (now high) ⌝ }
+    requires { ⌜ (1 ≤ p) × (p < modulusBound) × (m ≤ mostRows) × (k ≤ mostRows) × (n ≤ largestWidth) × (1 ≤ t) × (t < n) × (length (now low) ≡ m * n) × (length (now high) ≡ k * n)
+        × (length (now e) ≤ mostRows) × (length (now e) * n ≤ length (now f)) × AllBelow p (now f) × AllBelow p (now low) × AllBelow p (now high) ⌝ }
     ensures { λ _. ⌜ now (e .exit) ≡ tabulate (length (now (e .entry)))
         (λ j. (word (now (f .entry)) (j * n + t) + (p - middleSum (rowsOf (now (low .entry)) n m) (rowsOf (now (high .entry)) n k) j t % p)) % p) ⌝ }
 {
@@ -133,7 +134,7 @@ pub fn gather(
 
 // Column t of the rows in f.
 pub fn load_column(f: &[u32], n: usize, t: usize, e: &mut [u32])
-    requires { ⌜ (n ≤ 256) × (t < n) × (length (now e) ≤ 33) × (length (now e) * n ≤ length (now f)) ⌝ }
+    requires { ⌜ (n ≤ largestWidth) × (t < n) × (length (now e) ≤ mostRows) × (length (now e) * n ≤ length (now f)) ⌝ }
     ensures { λ _. ⌜ now (e .exit) ≡ tabulate (length (now (e .entry))) (λ j. word (now (f .entry)) (j * n + t)) ⌝ }
 {
     let mut j = 0;
@@ -145,7 +146,7 @@ pub fn load_column(f: &[u32], n: usize, t: usize, e: &mut [u32])
 
 // Column t of the rows in out becomes e.
 pub fn store_column(e: &[u32], n: usize, t: usize, out: &mut [u32])
-    requires { ⌜ (n ≤ 256) × (t < n) × (length (now e) ≤ 33) × (length (now e) * n ≤ length (now out)) ⌝ }
+    requires { ⌜ (n ≤ largestWidth) × (t < n) × (length (now e) ≤ mostRows) × (length (now e) * n ≤ length (now out)) ⌝ }
     ensures { λ _. ⌜ ColumnStored n t (now (e .entry)) (now (out .entry)) (now (out .exit)) ⌝ }
 {
     let mut j = 0;
@@ -157,7 +158,7 @@ pub fn store_column(e: &[u32], n: usize, t: usize, out: &mut [u32])
 
 // From A to what solving by it wants: 1 / A(c), and in the words from 1 on the quotient of A by Y − c.
 pub fn prepare(p: u32, c: u32, a: &mut [u32]) -> u32
-    requires { ⌜ Prime p × (p < 16777216) × (c < p) × (1 ≤ length (now a)) × AllBelow p (now a) × (1 ≤ word (hornerWords p c (now a)) 0) ⌝ }
+    requires { ⌜ Prime p × (p < modulusBound) × (c < p) × (1 ≤ length (now a)) × AllBelow p (now a) × (1 ≤ word (hornerWords p c (now a)) 0) ⌝ }
     ensures inverse { λ r. ⌜ r ≡ inverseOf p (word (hornerWords p c (now (a .entry))) 0) ⌝ }
     ensures words { λ _. ⌜ now (a .exit) ≡ hornerWords p c (now (a .entry)) ⌝ }
 {

@@ -11,30 +11,30 @@ use Rattle.numbers.specs.Words.{firstWhere, firstLarge, allTo, all}
 use Rattle.numbers.specs.Divisor.{leastDivisor}
 use Rattle.numbers.specs.Refusals.{judge, refusal, modulusChecks}
 use Rattle.numbers.specs.declared.refusal.Verdict.the-variants.{Pass, Refuse}
-use Rattle.rows.specs.Rows.{rowsOf, mul, linePower, monic}
-use Rattle.pair.specs.Pair.{orderOf, order, pairChecks, rowsBelow, productTest, pairTest}
-use Rattle.split.specs.Factors.{product}
-use Rattle.sheet.specs.Sheet.{primeTest, factorsTest, headerTest, bodyTest, soundTest, Given}
+use Rattle.rows.specs.Rows.{rowsOf, rowsBelow, mul, linePower, monic}
+use Rattle.pair.specs.Pair.{orderOf, order, pairChecks, productTest, pairTest}
+use Rattle.hensel.specs.Factors.{product}
+use Rattle.sheet.specs.Sheet.{primeTest, factorsTest, headerTest, bodyTest, soundTest, Given, givenOf}
 use Rattle.open.specs.Open.{upwards, choices, find, splitsTest, powersOf, needed, openVerdict}
-use Rattle.lift.specs.Extend.{extendVerdict}
+use Rattle.extend.specs.Extend.{extendVerdict}
 
 -- Y² − 1 − X over 7, three terms; its sheet with k terms and these factor rows
 abbrev job : Given
-job = record { p = 7; D = 2; N = 3; rows = 6 ∷ 6 ∷ 0 ∷ 0 ∷ 0 ∷ 0 ∷ 1 ∷ 0 ∷ 0 ∷ []; roots = 1 ∷ 6 ∷ [] }
+job = givenOf 7 2 3 (6 ∷ 6 ∷ 0 ∷ 0 ∷ 0 ∷ 0 ∷ 1 ∷ 0 ∷ 0 ∷ []) (1 ∷ 6 ∷ [])
 
 abbrev job-sheet : ℕ → List ℕ → List ℕ
 job-sheet k factors = 7 ∷ 2 ∷ 3 ∷ k ∷ 2 ∷ 10 ∷ 14 ∷ 23 ∷ 29 ∷ 29 ∷ 1 ∷ 1 ∷ 6 ∷ 1 ∷ 6 ∷ 6 ∷ 0 ∷ 0 ∷ 0 ∷ 0 ∷ 1 ∷ 0 ∷ 0 ∷ factors
 
 -- Y³ + Y² + XY + X over 2, two terms
 abbrev double : Given
-double = record { p = 2; D = 3; N = 2; rows = 0 ∷ 1 ∷ 0 ∷ 1 ∷ 1 ∷ 0 ∷ 1 ∷ 0 ∷ []; roots = 0 ∷ 1 ∷ [] }
+double = givenOf 2 3 2 (0 ∷ 1 ∷ 0 ∷ 1 ∷ 1 ∷ 0 ∷ 1 ∷ 0 ∷ []) (0 ∷ 1 ∷ [])
 
 abbrev double-sheet : List ℕ
 double-sheet = 2 ∷ 3 ∷ 2 ∷ 2 ∷ 2 ∷ 10 ∷ 14 ∷ 22 ∷ 28 ∷ 28 ∷ 0 ∷ 2 ∷ 1 ∷ 1 ∷ 0 ∷ 1 ∷ 0 ∷ 1 ∷ 1 ∷ 0 ∷ 1 ∷ 0 ∷ 0 ∷ 1 ∷ 0 ∷ 0 ∷ 1 ∷ 0 ∷ []
 
 -- Y² − 1 over 7 with the root 1 alone
 abbrev alone : Given
-alone = record { p = 7; D = 2; N = 1; rows = 6 ∷ 0 ∷ 1 ∷ []; roots = 1 ∷ [] }
+alone = givenOf 7 2 1 (6 ∷ 0 ∷ 1 ∷ []) (1 ∷ [])
 
 -- X + Y + Y², four terms; 2Y + X, two; 1 + Y, one: all over 5
 abbrev pair1 : List ℕ

@@ -1,16 +1,17 @@
 // Examples of document 01 and neighbours of theirs that are not proved as theorems: each line of the output is one call and its outcome,
 // held to the stored output, which a second program computed.
 use libc::STDOUT_FILENO;
-use numbers::number::Number;
-use numbers::number::NumberAnswer;
 use numbers::refusal::Answer;
 use numbers::refusal::Refusal;
+use residues::Number;
+use residues::NumberAnswer;
 ghost use mathlib.Core.Path.{_≡_};
 ghost use Prim.Native.Nat.{ℕ, _+_, _*_, _≤_};
 ghost use lib.ListN.{length};
 ghost use Rattle.numbers.specs.Words.{part, over};
 ghost use Rattle.numbers.specs.Refusals.{judge, outcome, result, written};
-ghost use Rattle.rows.specs.Rows.{multiplyChecks, rowProduct, shiftChecks, rowShift};
+ghost use Rattle.numbers.specs.Limits.{largestWidth};
+ghost use Rattle.rows.specs.Rows.{productChecks, rowProduct, shiftChecks, rowShift};
 ghost use Rattle.sheet.specs.Sheet.{readVerdict, readPart};
 
 fn say(text: &[u8]) {
@@ -79,14 +80,45 @@ fn say_words(a: Answer, out: &[u32]) {
 
 // Two series of n words that stand somewhere in a larger slice, multiplied where they stand.
 fn product_of_parts(p: u32, n: u32, words: &[u32], a: usize, b: usize, out: &mut [u32]) -> Answer
-    requires { ⌜ (n ≤ 256) × (a + n ≤ length (now words)) × (b + n ≤ length (now words)) ⌝ }
-    ensures answer { λ r. ⌜ outcome r ≡ result (judge (multiplyChecks p 0 0 n (part (now (words .entry)) a n) (part (now (words .entry)) b n) (length (now (out .entry))))) ((0 + 0 + 1) * n) ⌝ }
-    ensures words { λ _. ⌜ now (out .exit) ≡ written (judge (multiplyChecks p 0 0 n (part (now (words .entry)) a n) (part (now (words .entry)) b n) (length (now (out .entry)))))
+    requires { ⌜ (n ≤ largestWidth) × (a + n ≤ length (now words)) × (b + n ≤ length (now words)) ⌝ }
+    ensures answer { λ r. ⌜ outcome r ≡ result (judge (productChecks p 0 0 n (part (now (words .entry)) a n) (part (now (words .entry)) b n) (length (now (out .entry))))) ((0 + 0 + 1) * n) ⌝ }
+    ensures words { λ _. ⌜ now (out .exit) ≡ written (judge (productChecks p 0 0 n (part (now (words .entry)) a n) (part (now (words .entry)) b n) (length (now (out .entry)))))
         (over (rowProduct p 0 0 n (part (now (words .entry)) a n) (part (now (words .entry)) b n)) (now (out .entry))) (now (out .entry)) ⌝ }
 {
     let x = a + n as usize;
     let y = b + n as usize;
-    rows::multiply(p, 0, 0, n, &words[a..x], &words[b..y], out)
+    rows::product(p, 0, 0, n, &words[a..x], &words[b..y], out)
+}
+
+// One call, and its outcome with the words that it leaves.
+fn say_product(p: u32, n: u32, g: &[u32], h: &[u32], out: &mut [u32]) {
+    let answer = series::product(p, n, g, h, out);
+    say_words(answer, out);
+}
+
+fn say_quotient(p: u32, n: u32, g: &[u32], h: &[u32], out: &mut [u32]) {
+    let answer = series::quotient(p, n, g, h, out);
+    say_words(answer, out);
+}
+
+fn say_pair(p: u32, d: u32, n: u32, f: &[u32], w: u32, out: &mut [u32]) {
+    let answer = pair::pair(p, d, n, f, w, out);
+    say_words(answer, out);
+}
+
+fn say_continue(p: u32, d: u32, n: u32, f: &[u32], h: u32, w: u32, out: &mut [u32]) {
+    let answer = pair::pair_continue(p, d, n, f, h, w, out);
+    say_words(answer, out);
+}
+
+fn say_open(p: u32, d: u32, n: u32, f: &[u32], roots: &[u32], sheet: &mut [u32]) {
+    let answer = open::open(p, d, n, f, roots, sheet);
+    say_words(answer, sheet);
+}
+
+fn say_extend(sheet: &mut [u32], w: u32) {
+    let answer = extend::extend(sheet, w);
+    say_words(answer, sheet);
 }
 
 fn series_examples() {
@@ -95,9 +127,9 @@ fn series_examples() {
     let mut out = [9u32; 4];
     say_words(series::sum(7, 3, &g, &h, &mut out), &out);
     say_words(series::difference(7, 3, &g, &h, &mut out), &out);
-    say_words(series::multiply(7, 3, &g, &h, &mut out), &out);
-    say_words(series::divide(7, 3, &g, &h, &mut out), &out);
-    say_words(series::invert(7, 3, &h, &mut out), &out);
+    say_product(7, 3, &g, &h, &mut out);
+    say_quotient(7, 3, &g, &h, &mut out);
+    say_words(series::inverse(7, 3, &h, &mut out), &out);
 }
 
 // Two refusals at once: the one with the lower number is given, and no word changes.
@@ -107,14 +139,14 @@ fn series_refusals() {
     let large = [4u32, 9, 7];
     let mut out = [9u32; 4];
     let mut short = [9u32; 2];
-    say_words(series::divide(7, 3, &g, &zero, &mut out), &out);
-    say_words(series::divide(7, 3, &g, &zero, &mut short), &short);
-    say_words(series::invert(7, 3, &zero, &mut short), &short);
-    say_words(series::multiply(7, 3, &g, &large, &mut out), &out);
-    say_words(series::multiply(7, 3, &large, &g, &mut out), &out);
-    say_words(series::multiply(7, 4, &g, &large, &mut out), &out);
-    say_words(series::multiply(7, 257, &g, &large, &mut out), &out);
-    say_words(series::multiply(6, 0, &g, &large, &mut out), &out);
+    say_quotient(7, 3, &g, &zero, &mut out);
+    say_quotient(7, 3, &g, &zero, &mut short);
+    say_words(series::inverse(7, 3, &zero, &mut short), &short);
+    say_product(7, 3, &g, &large, &mut out);
+    say_product(7, 3, &large, &g, &mut out);
+    say_product(7, 4, &g, &large, &mut out);
+    say_product(7, 257, &g, &large, &mut out);
+    say_product(6, 0, &g, &large, &mut out);
 }
 
 fn row_examples() {
@@ -122,12 +154,12 @@ fn row_examples() {
     let f = [1u32, 1, 1, 0];
     let g = [2u32, 0, 0, 3, 1, 0];
     let mut out = [9u32; 9];
-    say_words(rows::multiply(5, 1, 2, 2, &f, &g, &mut out), &out);
+    say_words(rows::product(5, 1, 2, 2, &f, &g, &mut out), &out);
     say_words(rows::shift(5, 2, 2, &g, 3, &mut out), &out);
     say_words(rows::shift(5, 2, 2, &g, 5, &mut out), &out);
     say_words(rows::sum(5, 1, 2, &f, &f, &mut out), &out);
-    say_words(rows::multiply(5, 4294967295, 1, 2, &f, &f, &mut out), &out);
-    say_words(rows::multiply(5, 17, 16, 2, &f, &f, &mut out), &out);
+    say_words(rows::product(5, 4294967295, 1, 2, &f, &f, &mut out), &out);
+    say_words(rows::product(5, 17, 16, 2, &f, &f, &mut out), &out);
     say_words(product_of_parts(5, 2, &g, 1, 3, &mut out), &out);
 }
 
@@ -135,26 +167,29 @@ fn pair_examples() {
     let mut out = [9u32; 13];
     // X + Y + Y² over 5, to 4 terms; to 2 terms and then on to 4
     let f = [0u32, 1, 0, 0, 1, 0, 0, 0, 1, 0, 0, 0];
-    say_words(pair::pair(5, 2, 4, &f, 4, &mut out), &out);
-    say_words(pair::pair(5, 2, 4, &f, 2, &mut out), &out);
-    say_words(pair::pair_continue(5, 2, 4, &f, 2, 4, &mut out), &out);
+    say_pair(5, 2, 4, &f, 4, &mut out);
+    say_pair(5, 2, 4, &f, 2, &mut out);
+    say_continue(5, 2, 4, &f, 2, 4, &mut out);
     // behind, beyond, spoiled
-    say_words(pair::pair_continue(5, 2, 4, &f, 4, 3, &mut out), &out);
-    say_words(pair::pair_continue(5, 2, 4, &f, 4, 5, &mut out), &out);
-    say_words(pair::pair_continue(5, 2, 4, &f, 3, 4, &mut out), &out);
-    say_words(pair::pair_continue(5, 2, 4, &f, 0, 4, &mut out), &out);
-    // flat before beyond, short before flat
+    say_continue(5, 2, 4, &f, 4, 3, &mut out);
+    say_continue(5, 2, 4, &f, 4, 5, &mut out);
+    say_continue(5, 2, 4, &f, 3, 4, &mut out);
+    say_continue(5, 2, 4, &f, 0, 4, &mut out);
+}
+
+// Flat before beyond, over the pair from before; short before flat; order D; D = 0; A whose top row is 0 at X = 0.
+fn pair_shapes() {
+    let mut out = [0u32, 1, 1, 2, 1, 4, 4, 3, 1, 0, 0, 0, 9];
     let flat = [0u32, 1, 0, 0, 0, 3, 0, 0, 0, 0, 0, 2];
-    say_words(pair::pair(5, 2, 4, &flat, 0, &mut out), &out);
+    say_pair(5, 2, 4, &flat, 0, &mut out);
     let mut short = [9u32; 11];
-    say_words(pair::pair(5, 2, 4, &flat, 0, &mut short), &short);
-    // order D; D = 0; A whose top row is 0 at X = 0
+    say_pair(5, 2, 4, &flat, 0, &mut short);
     let top = [0u32, 2, 1, 0, 0, 3, 4, 1, 3, 1, 0, 2];
-    say_words(pair::pair(5, 2, 4, &top, 4, &mut out), &out);
+    say_pair(5, 2, 4, &top, 4, &mut out);
     let alone = [3u32, 1, 4, 1];
-    say_words(pair::pair(5, 0, 4, &alone, 4, &mut out), &out);
+    say_pair(5, 0, 4, &alone, 4, &mut out);
     let falling = [0u32, 1, 2, 0, 1, 0, 3, 1, 0, 1, 0, 4];
-    say_words(pair::pair(5, 2, 4, &falling, 4, &mut out), &out);
+    say_pair(5, 2, 4, &falling, 4, &mut out);
 }
 
 // X + (1 + X³) Y + (1 + X) Y² over 2, to 256 terms: p far below the number of terms.
@@ -166,7 +201,7 @@ fn long_pair() {
     f[259] = 1;
     f[512] = 1;
     f[513] = 1;
-    say_words(pair::pair(2, 2, 256, &f, 256, &mut out), &out);
+    say_pair(2, 2, 256, &f, 256, &mut out);
 }
 
 fn say_test(s: &[u32]) {
@@ -181,7 +216,7 @@ fn say_test(s: &[u32]) {
 fn extend_front(s: &mut [u32], lent: usize, w: u32) -> Answer
     requires { ⌜ lent ≤ length (now s) ⌝ }
 {
-    lift::extend(&mut s[..lent], w)
+    extend::extend(&mut s[..lent], w)
 }
 
 // Document 01's job, Y² − 1 − X over 7, with one word past the sheet's end: worked on in two goes, refused, shortened, damaged.
@@ -189,20 +224,20 @@ fn job_sheet() {
     let f = [6u32, 6, 0, 0, 0, 0, 1, 0, 0];
     let roots = [1u32, 6];
     let mut short = [99u32; 28];
-    say_words(open::open(7, 2, 3, &f, &roots, &mut short), &short);
+    say_open(7, 2, 3, &f, &roots, &mut short);
     let mut s = [99u32; 30];
-    say_words(open::open(7, 2, 3, &f, &roots, &mut s), &s);
+    say_open(7, 2, 3, &f, &roots, &mut s);
     say_test(&s);
-    say_words(lift::extend(&mut s, 2), &s);
-    say_words(lift::extend(&mut s, 3), &s);
-    say_words(lift::extend(&mut s, 2), &s);
-    say_words(lift::extend(&mut s, 4), &s);
+    say_extend(&mut s, 2);
+    say_extend(&mut s, 3);
+    say_extend(&mut s, 2);
+    say_extend(&mut s, 4);
     say_words(extend_front(&mut s, 28, 3), &s);
     say_list(sheet::factor_rows(&s, 1));
     say(b"\n");
     s[24] = 5;
     say_test(&s);
-    say_words(lift::extend(&mut s, 3), &s);
+    say_extend(&mut s, 3);
 }
 
 // The same sheet, worked on by a list of calls: accepted, too few words lent, accepted, behind, beyond.
@@ -210,7 +245,7 @@ fn job_calls() {
     let f = [6u32, 6, 0, 0, 0, 0, 1, 0, 0];
     let roots = [1u32, 6];
     let mut s = [99u32; 30];
-    say_words(open::open(7, 2, 3, &f, &roots, &mut s), &s);
+    say_open(7, 2, 3, &f, &roots, &mut s);
     let lent = [30u32, 28, 29, 30, 30];
     let goals = [2u32, 3, 3, 2, 4];
     let mut answers = [9u32; 11];
@@ -259,8 +294,8 @@ fn three_roots() {
     ];
     let roots = [0u32, 1, 3];
     let mut s = [9u32; 53];
-    say_words(open::open(5, 4, 4, &f, &roots, &mut s), &s);
-    say_words(lift::extend(&mut s, 4), &s);
+    say_open(5, 4, 4, &f, &roots, &mut s);
+    say_extend(&mut s, 4);
     say_test(&s);
     // the double root's rows at Y + 3; there is no factor 3, so that its part is empty and too short
     let mut shifted = [9u32; 9];
@@ -280,9 +315,9 @@ fn largest_degree() {
     f[32] = 1;
     let roots = [0u32];
     let mut s = [9u32; 78];
-    say_words(open::open(7, 33, 1, &f, &roots, &mut s), &s);
-    say_words(open::open(7, 0, 1, &f, &roots, &mut s), &s);
-    say_words(open::open(7, 32, 1, &f, &roots, &mut s), &s);
+    say_open(7, 33, 1, &f, &roots, &mut s);
+    say_open(7, 0, 1, &f, &roots, &mut s);
+    say_open(7, 32, 1, &f, &roots, &mut s);
 }
 
 // Y + X with 256 terms passes, 257 terms don't; its root is worked to the last term, and not beyond.
@@ -292,31 +327,36 @@ fn most_terms() {
     f[256] = 1;
     let roots = [0u32];
     let mut s = [9u32; 781];
-    say_words(open::open(7, 1, 257, &f, &roots, &mut s), &s);
-    say_words(open::open(7, 1, 256, &f, &roots, &mut s), &s);
-    say_words(lift::extend(&mut s, 257), &s);
-    say_words(lift::extend(&mut s, 256), &s);
+    say_open(7, 1, 257, &f, &roots, &mut s);
+    say_open(7, 1, 256, &f, &roots, &mut s);
+    say_extend(&mut s, 257);
+    say_extend(&mut s, 256);
 }
 
-// What open refuses, Y² − 1 over 7 with two terms: rows 6 to 9, and two at once.
+// What open refuses, Y² − 1 over 7 with two terms: refusals 6 to 9.
 fn open_refusals() {
     let f = [6u32, 0, 0, 0, 1, 0];
     let mut s = [9u32; 3];
     let one = [1u32];
-    say_words(open::open(7, 2, 2, &f, &one, &mut s), &s);
+    say_open(7, 2, 2, &f, &one, &mut s);
     let large = [1u32, 7];
-    say_words(open::open(7, 2, 2, &f, &large, &mut s), &s);
+    say_open(7, 2, 2, &f, &large, &mut s);
     let falling = [6u32, 1];
-    say_words(open::open(7, 2, 2, &f, &falling, &mut s), &s);
+    say_open(7, 2, 2, &f, &falling, &mut s);
     let many = [1u32, 2, 6];
-    say_words(open::open(7, 2, 2, &f, &many, &mut s), &s);
+    say_open(7, 2, 2, &f, &many, &mut s);
     let both = [1u32, 6];
-    say_words(open::open(7, 2, 2, &f, &both, &mut s), &s);
-    // not monic, with a root list that falls; a root too large comes before both
+    say_open(7, 2, 2, &f, &both, &mut s);
+}
+
+// The same, not monic, with a root list that falls; a root too large comes before both.
+fn two_refusals() {
+    let mut s = [9u32; 3];
+    let falling = [6u32, 1];
     let double = [6u32, 0, 0, 0, 2, 0];
-    say_words(open::open(7, 2, 2, &double, &falling, &mut s), &s);
+    say_open(7, 2, 2, &double, &falling, &mut s);
     let worse = [6u32, 8];
-    say_words(open::open(7, 2, 2, &double, &worse, &mut s), &s);
+    say_open(7, 2, 2, &double, &worse, &mut s);
 }
 
 fn main() {
@@ -326,7 +366,7 @@ fn main() {
     all_four(7, 7, 5);
     all_four(7, 6, 7);
     all_four(7, 8, 9);
-    // 0 has no inverse; rows 1 and 2 come first
+    // 0 has no inverse; refusals 1 and 2 come first
     all_four(7, 0, 0);
     all_four(91, 0, 200);
     all_four(1, 0, 0);
@@ -337,6 +377,7 @@ fn main() {
     series_refusals();
     row_examples();
     pair_examples();
+    pair_shapes();
     long_pair();
     job_sheet();
     job_calls();
@@ -344,4 +385,5 @@ fn main() {
     largest_degree();
     most_terms();
     open_refusals();
+    two_refusals();
 }

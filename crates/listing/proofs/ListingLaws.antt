@@ -1,11 +1,11 @@
 -- From the calls that listing makes to the text that the job comes to.
 --   list-refused, list-opens   the verdict of a job: its own checks', or else open's
---   list-room                  a sheet of 1,634 words is room enough for every job
+--   list-room                  a sheet of `sheetRoom` words is room enough for every job
 --   opened-holds, extended-holds   an accepted open, and then extend to N, leave a sheet that holds what the job gives
 --   text-refused, text-listed  the text under a verdict
 --   wrote-refused, wrote-listed, given-listable   after open: its refusal, or else extend to N
 --   wrote-early, wrote-job     the text of a job, by its own checks or by open's
---   listed-fits, listed-never  an accepted listing is within its room; 9,216 bytes are always enough
+--   listed-fits, listed-never  an accepted listing is within its room; `textRoom` bytes are always enough
 --   listing-same               two sheets that hold it have one listing
 --   one-listing                each job comes to exactly one text
 -- Assumes nothing.
@@ -19,7 +19,7 @@ use lib.Dec.{ltb, eqb}
 use lib.ListN.{length, take, drop, length-append}
 use lib.Seq.{getD-take, length-take-le, take-at}
 use borrow.Author.Tests.{le-ltb, lt-ltb, ltb-false, eqb-true, not-false}
-use Rattle.algebra.specs.Sums.{sumTo, sumTo-ext, sumTo-suc, sumTo-mono}
+use Rattle.algebra.specs.Sums.{sumTo, sumTo-ext}
 use Rattle.numbers.specs.Words.{word, tabulate, over, outside}
 use Rattle.numbers.specs.Refusals.{check, judge, refusal, Outcome, accepted, refused, result, written, modulusChecks, Leaves}
 use Rattle.numbers.specs.declared.refusal.Refusal.{Refusal}
@@ -27,20 +27,32 @@ use Rattle.numbers.specs.declared.refusal.Verdict.{Verdict}
 use Rattle.numbers.specs.declared.refusal.Verdict.the-variants.{Pass, Refuse}
 use Rattle.numbers.proofs.RefusalsLaws.{after-pass, after-refuse, pass-parts, take-check, skip-check, none-judged, pass-check, neither, inside, answer-refused}
 use Rattle.numbers.proofs.WordsLaws.{tabulate-ext, length-tabulate}
-use Rattle.sheet.specs.Layout.{modulus, degree, width, terms, count, root, power, factor, factorsFrom, end}
-use Rattle.sheet.specs.Sheet.{Given, Holds}
-use Rattle.sheet.proofs.RegionsLaws.{in-rows}
+use Rattle.layout.specs.Layout.{modulus, degree, width, terms, count, root, power, factor, rootsFrom, factorsFrom, end}
+use Rattle.sheet.specs.Sheet.{Given, Holds, givenOf, Sound}
+use Rattle.layout.proofs.PlacesLaws.{upto-power, count-sum}
+use Rattle.layout.proofs.RegionsLaws.{in-rows}
+use Rattle.sheet.proofs.ReadingLaws.{sound-placed}
 use Rattle.sheet.proofs.SoundTestLaws.{sound-test}
 use Rattle.sheet.proofs.UniqueLaws.{holds-unique}
-use Rattle.lift.specs.Extend.{extendVerdict, ExtendDone, Extended}
-use Rattle.lift.proofs.ExtendingLaws.{extend-holds}
+use Rattle.extend.specs.Extend.{extendVerdict, ExtendDone, Extended}
+use Rattle.extend.proofs.ExtendingLaws.{extend-holds}
 use Rattle.open.specs.Open.{needed, openChecks, openVerdict, OpenDone, Opened}
 use Rattle.open.proofs.OpeningLaws.{open-ready, sheet-exists}
-use Rattle.listing.specs.Text.{joinTo, rowLine, rowLines, rootLine, headLine, factorText, listingText, refusedText, Listable, Puts}
-use Rattle.listing.proofs.TextLaws.{puts-as}
-use Rattle.listing.proofs.SheetTextLaws.{listable}
-use Rattle.listing.specs.Job.{half, halves, misplaced, placeChecks, sizeChecks, jobChecks, jobGiven, listVerdict}
+use Rattle.text.specs.Limits.{mostDegree, mostWidth, headSize, sheetRoom, refusalRoom, textRoom}
+use Rattle.text.specs.Text.{joinTo, rowLine, rowLines, rootLine, headLine, factorText, listingText, refusedText, Listable, Puts}
+use Rattle.text.proofs.TextLaws.{puts-as}
+use Rattle.listing.specs.Job.{half, jobModulus, jobDegree, jobWidth, jobCount, halves, misplaced, placeChecks, sizeChecks, jobChecks, jobGiven, listVerdict}
 use Rattle.listing.specs.Listing.{TextOf, IsListing, Wrote, WroteGiven, roomVerdict, Listed}
+
+-- every sound sheet within a job's limits has its room
+pub listable : (s : List ℕ) → Sound s → degree s ≤ mostDegree → width s ≤ mostWidth → Listable s
+listable s sound d n = record {
+  placed = sound-placed s sound;
+  degree-high = d;
+  width-low = omega (arith, sound .terms-low, sound .terms-high);
+  width-high = n;
+  count-high = omega (arith, count-sum (count s) (power s) (sound .factors .powers), sound .factors .degree);
+}
 
 -- the verdict of a job: its own checks', or else open's
 pub list-refused : (b : List ℕ) (r : Refusal) → judge (jobChecks b) ≡ Refuse r → listVerdict b ≡ Refuse r
@@ -60,12 +72,12 @@ pub open-room : (g : Given) (room : ℕ) → needed g ≤ room → openVerdict g
 unfolding openVerdict
 open-room g room h = rw (le-ltb room (needed g) h, le-ltb (needed g) (needed g) (omega arith))
 
--- 1,634 words are room enough within the job file's limits
-pub list-room : (g : Given) → g .D ≤ 12 → g .N ≤ 64 → length (g .roots) ≤ 12 → needed g ≤ 1634
+-- a sheet has room enough within a job's limits
+pub list-room : (g : Given) → g .D ≤ mostDegree → g .N ≤ mostWidth → length (g .roots) ≤ mostDegree → needed g ≤ sheetRoom
 unfolding needed
 list-room g d n r =
     let a : 2 * g .D + 1 ≤ 25 = omega arith in
-    let q : (2 * g .D + 1) * g .N ≤ 25 * 64 = mul-le-mul a n in
+    let q : (2 * g .D + 1) * g .N ≤ 25 * mostWidth = mul-le-mul a n in
     omega arith
 
 -- an accepted open leaves a sheet that holds what it was given
@@ -98,15 +110,14 @@ module _ (g : Given) (k : ℕ) (s u : List ℕ) (hs : Holds g k s) (hu : Holds g
   same-r = agree 4 (omega arith)
 
   same-root : (i : ℕ) → i < count s → root s i ≡ root u i
-  same-root i l = agree (10 + 2 * i) (omega arith)
+  same-root i l = agree (rootsFrom + 2 * i) (omega arith)
 
   same-power : (i : ℕ) → i < count s → power s i ≡ power u i
-  same-power i l = agree (10 + 2 * i + 1) (omega arith)
+  same-power i l = agree (rootsFrom + 2 * i + 1) (omega arith)
 
   factor-place : (i j t : ℕ) → i < count s → j < power s i → t < width s → factorsFrom (degree s) (width s) (count s) + (sumTo i (power s) + j) * width s + t < end s
   factor-place i j t l m n =
-      let below : sumTo i (power s) + j < degree s =
-      omega (arith, hs .sound .factors .degree, sumTo-suc i (power s), sumTo-mono (suc i) (count s) (power s) (let z : suc i ≤ count s = omega arith in z)) in
+      let below : sumTo i (power s) + j < degree s = omega (arith, upto-power s (sound-placed s (hs .sound)) i l) in
       let a = in-rows (degree s) (width s) (sumTo i (power s) + j) t below n in
       let e = add-mul (degree s + 1) (degree s) (width s) in
       let d : (2 * degree s + 1) * width s ≡ (degree s + 1 + degree s) * width s = ap (λ (x : ℕ). x * width s) (let z : 2 * degree s + 1 ≡ degree s + 1 + degree s = omega arith in z) in
@@ -189,42 +200,46 @@ pub handed-all : (text old : List ℕ) {n a : ℕ} {new : List ℕ} → length t
     → (_≡_ {A = Outcome ℕ} (accepted (length text)) (result (roomVerdict text old) (length text))) × (new ≡ written (roomVerdict text old) (over text old) old)
 handed-all text old h f = rw (has-room text old h) (refl, put-over f)
 
--- what is known of a job whose own checks pass
-pub record Limits (b : List ℕ) : Type 0 where
-  pub degree-low : 1 ≤ half b 1
-  pub degree-high : half b 1 ≤ 12
-  pub terms-low : 1 ≤ half b 2
-  pub terms-high : half b 2 ≤ 64
-  pub count-high : half b 3 ≤ 12
-  pub long : length b ≡ 12 + 2 * half b 3 + 2 * ((half b 1 + 1) * half b 2)
+-- the bytes that a job with its D, N and r has
+abbrev jobLong : List ℕ → ℕ
+jobLong b = headSize + 2 * jobCount b + 2 * ((jobDegree b + 1) * jobWidth b)
 
-pub job-limits : (b : List ℕ) → judge (jobChecks b) ≡ Pass → Limits b
-job-limits b e =
-    let c₀ = pass-check (check 5 (ltb (length b) 12) 0) (modulusChecks (half b 0) ++ sizeChecks b) e in
-    let m = pass-parts (modulusChecks (half b 0)) (sizeChecks b) (c₀ .1) in
-    let c₃ = pass-check (check 3 (outside 1 12 (half b 1)) 0) (check 4 (outside 1 64 (half b 2)) 0 ∷ placeChecks b (half b 1) (half b 2)) (m .1) in
-    let c₄ = pass-check (check 4 (outside 1 64 (half b 2)) 0) (placeChecks b (half b 1) (half b 2)) (c₃ .1) in
-    let c₅ = pass-check (check 5 (ltb 12 (half b 3) || misplaced b (half b 1) (half b 2)) 0) [] (c₄ .1) in
-    let d = inside 1 12 (half b 1) (c₃ .0) in
-    let n = inside 1 64 (half b 2) (c₄ .0) in
-    let r = neither (ltb 12 (half b 3)) (misplaced b (half b 1) (half b 2)) (c₅ .0) in
-    let o = neither (not (eqb (half b 4) 12)) (not (eqb (half b 5) (12 + 2 * half b 3)) || not (eqb (length b) (12 + 2 * half b 3 + 2 * ((half b 1 + 1) * half b 2)))) (r .1) in
-    let q = neither (not (eqb (half b 5) (12 + 2 * half b 3))) (not (eqb (length b) (12 + 2 * half b 3 + 2 * ((half b 1 + 1) * half b 2)))) (o .1) in
+-- what is known of a job whose own checks pass
+pub record JobPass (b : List ℕ) : Type 0 where
+  pub degree-low : 1 ≤ jobDegree b
+  pub degree-high : jobDegree b ≤ mostDegree
+  pub width-low : 1 ≤ jobWidth b
+  pub width-high : jobWidth b ≤ mostWidth
+  pub count-high : jobCount b ≤ mostDegree
+  pub long : length b ≡ jobLong b
+
+pub job-pass : (b : List ℕ) → judge (jobChecks b) ≡ Pass → JobPass b
+job-pass b e =
+    let c₀ = pass-check (check 5 (ltb (length b) headSize) 0) (modulusChecks (jobModulus b) ++ sizeChecks b) e in
+    let m = pass-parts (modulusChecks (jobModulus b)) (sizeChecks b) (c₀ .1) in
+    let c₃ = pass-check (check 3 (outside 1 mostDegree (jobDegree b)) 0) (check 4 (outside 1 mostWidth (jobWidth b)) 0 ∷ placeChecks b (jobDegree b) (jobWidth b)) (m .1) in
+    let c₄ = pass-check (check 4 (outside 1 mostWidth (jobWidth b)) 0) (placeChecks b (jobDegree b) (jobWidth b)) (c₃ .1) in
+    let c₅ = pass-check (check 5 (ltb mostDegree (jobCount b) || misplaced b (jobDegree b) (jobWidth b)) 0) [] (c₄ .1) in
+    let d = inside 1 mostDegree (jobDegree b) (c₃ .0) in
+    let n = inside 1 mostWidth (jobWidth b) (c₄ .0) in
+    let r = neither (ltb mostDegree (jobCount b)) (misplaced b (jobDegree b) (jobWidth b)) (c₅ .0) in
+    let o = neither (not (eqb (half b 4) headSize)) (not (eqb (half b 5) (headSize + 2 * jobCount b)) || not (eqb (length b) (jobLong b))) (r .1) in
+    let q = neither (not (eqb (half b 5) (headSize + 2 * jobCount b))) (not (eqb (length b) (jobLong b))) (o .1) in
     record {
       degree-low = d .0;
       degree-high = d .1;
-      terms-low = n .0;
-      terms-high = n .1;
-      count-high = ltb-false 12 (half b 3) (r .0);
-      long = eqb-true (length b) (12 + 2 * half b 3 + 2 * ((half b 1 + 1) * half b 2)) (not-false (eqb (length b) (12 + 2 * half b 3 + 2 * ((half b 1 + 1) * half b 2))) (q .1));
+      width-low = n .0;
+      width-high = n .1;
+      count-high = ltb-false mostDegree (jobCount b) (r .0);
+      long = eqb-true (length b) (jobLong b) (not-false (eqb (length b) (jobLong b)) (q .1));
     }
 
--- open's verdict on a job's words, in a sheet of 1,634, is the job's
-pub list-verdict : (b : List ℕ) (room : ℕ) → judge (jobChecks b) ≡ Pass → room ≡ 1634 → listVerdict b ≡ openVerdict (jobGiven b) room
+-- open's verdict on a job's words, in a sheet with room for every job, is the job's
+pub list-verdict : (b : List ℕ) (room : ℕ) → judge (jobChecks b) ≡ Pass → room ≡ sheetRoom → listVerdict b ≡ openVerdict (jobGiven b) room
 unfolding jobGiven
 list-verdict b room e q =
-    let l = job-limits b e in
-    let n = list-room (jobGiven b) (l .degree-high) (l .terms-high) (omega (arith, l .count-high, length-tabulate (half b 3) (λ i. half b (6 + i)))) in
+    let l = job-pass b e in
+    let n = list-room (jobGiven b) (l .degree-high) (l .width-high) (omega (arith, l .count-high, length-tabulate (jobCount b) (λ i. half b (6 + i)))) in
     list-opens b e ∙ sym (open-room (jobGiven b) room (omega arith))
 
 -- what open leaves can be extended to any number of terms from 1 to N
@@ -237,28 +252,28 @@ extend-passes g s w h low high =
 unlike : {A : Type 0} (T n d : ℕ) → _≡_ {A = Outcome ℕ} (refused n d) (accepted T) → A
 unlike T n d e = absurd (let z : _≡_ {A = ℕ} 0 1 = cc in let y : ⊥ = omega arith in y)
 
-module _ (g : Given) (old mid : List ℕ) (a : Outcome ℕ) (room : length old ≡ 1634) (o : Opened g old a mid) where
-  answered : a ≡ result (openVerdict g 1634) (needed g)
+module _ (g : Given) (old mid : List ℕ) (a : Outcome ℕ) (room : length old ≡ sheetRoom) (o : Opened g old a mid) where
+  answered : a ≡ result (openVerdict g sheetRoom) (needed g)
   answered = subst (λ (n : ℕ). a ≡ result (openVerdict g n) (needed g)) room (o .answers)
 
-  refused-text : (n d : ℕ) → a ≡ refused n d → TextOf (openVerdict g 1634) g (refusedText n d)
-  refused-text n d is = go (openVerdict g 1634) refl (sym is ∙ answered)
+  refused-text : (n d : ℕ) → a ≡ refused n d → TextOf (openVerdict g sheetRoom) g (refusedText n d)
+  refused-text n d is = go (openVerdict g sheetRoom) refl (sym is ∙ answered)
     where
-      go : (v : Verdict) → openVerdict g 1634 ≡ v → _≡_ {A = Outcome ℕ} (refused n d) (result v (needed g)) → TextOf (openVerdict g 1634) g (refusedText n d)
+      go : (v : Verdict) → openVerdict g sheetRoom ≡ v → _≡_ {A = Outcome ℕ} (refused n d) (result v (needed g)) → TextOf (openVerdict g sheetRoom) g (refusedText n d)
       go Pass q e = unlike (needed g) n d e
       go (Refuse r) q e =
           let m : r .number ≡ n = cc in
           let l : r .detail ≡ d = cc in
-          subst (λ (x : List ℕ). TextOf (openVerdict g 1634) g x) (ap₂ refusedText m l) (text-refused (openVerdict g 1634) g r q)
+          subst (λ (x : List ℕ). TextOf (openVerdict g sheetRoom) g x) (ap₂ refusedText m l) (text-refused (openVerdict g sheetRoom) g r q)
 
-  pub wrote-refused : (n d : ℕ) {at : ℕ} {out new : List ℕ} → a ≡ refused n d → Puts 30 (refusedText n d) 0 out at new → Wrote (openVerdict g 1634) g out at new
+  pub wrote-refused : (n d : ℕ) {at : ℕ} {out new : List ℕ} → a ≡ refused n d → Puts refusalRoom (refusedText n d) 0 out at new → Wrote (openVerdict g sheetRoom) g out at new
   wrote-refused n d is f =
-      record { text = refusedText n d; is = refused-text n d is; puts = puts-as 9216 (refusedText n d) f refl (omega arith) }
+      record { text = refusedText n d; is = refused-text n d is; puts = puts-as textRoom (refusedText n d) f refl (omega arith) }
 
-  passed : (T : ℕ) → a ≡ accepted T → openVerdict g 1634 ≡ Pass
-  passed T is = go (openVerdict g 1634) refl (sym is ∙ answered)
+  passed : (T : ℕ) → a ≡ accepted T → openVerdict g sheetRoom ≡ Pass
+  passed T is = go (openVerdict g sheetRoom) refl (sym is ∙ answered)
     where
-      go : (v : Verdict) → openVerdict g 1634 ≡ v → _≡_ {A = Outcome ℕ} (accepted T) (result v (needed g)) → openVerdict g 1634 ≡ Pass
+      go : (v : Verdict) → openVerdict g sheetRoom ≡ v → _≡_ {A = Outcome ℕ} (accepted T) (result v (needed g)) → openVerdict g sheetRoom ≡ Pass
       go Pass q e = q
       go (Refuse r) q e = unlike T (r .number) (r .detail) (sym e)
 
@@ -266,19 +281,19 @@ module _ (g : Given) (old mid : List ℕ) (a : Outcome ℕ) (room : length old �
   holds-all T w b new is e x =
       let v = passed T is in
       let h = opened-holds g old mid a o (ap (openVerdict g) room ∙ v) in
-      let ready = open-ready g 1634 v .0 in
+      let ready = open-ready g sheetRoom v .0 in
       let y = extended-holds g mid new b w h x (extend-passes g mid w h (omega (arith, ready .width-low)) (omega arith)) in
       subst (λ (n : ℕ). Holds g n new) e y
 
-  pub given-listable : (T w : ℕ) (b : Outcome ℕ) (new : List ℕ) → a ≡ accepted T → w ≡ g .N → g .D ≤ 12 → g .N ≤ 64 → Extended mid w b new → Listable new
+  pub given-listable : (T w : ℕ) (b : Outcome ℕ) (new : List ℕ) → a ≡ accepted T → w ≡ g .N → g .D ≤ mostDegree → g .N ≤ mostWidth → Extended mid w b new → Listable new
   given-listable T w b new is e d n x =
       let h = holds-all T w b new is e x in
       listable new (h .sound) (omega (arith, h .same-degree)) (omega (arith, h .same-width))
 
   pub wrote-listed : (T w : ℕ) (b : Outcome ℕ) (new : List ℕ) {at : ℕ} {out text : List ℕ} → a ≡ accepted T → w ≡ g .N → Extended mid w b new
-      → Puts 9216 (listingText new) 0 out at text → Wrote (openVerdict g 1634) g out at text
+      → Puts textRoom (listingText new) 0 out at text → Wrote (openVerdict g sheetRoom) g out at text
   wrote-listed T w b new is e x f =
-      record { text = listingText new; is = text-listed (openVerdict g 1634) g new (passed T is) (holds-all T w b new is e x); puts = f }
+      record { text = listingText new; is = text-listed (openVerdict g sheetRoom) g new (passed T is) (holds-all T w b new is e x); puts = f }
 
 -- the words of a job, where they were loaded into the first m words of an array
 pub loaded-first : (b : List ℕ) (from o m k : ℕ) (zeros new : List ℕ) → m ≤ length zeros → from ≡ o → m ≡ k → new ≡ halves b from (length (take m zeros))
@@ -300,35 +315,35 @@ load-fits from r long zeros h e = omega (arith, length-take-le r zeros h)
 
 -- what a job gives, word by word
 abbrev to : (p D N : ℕ) (rows roots : List ℕ) → Given
-to p D N rows roots = record { p = p; D = D; N = N; rows = rows; roots = roots }
+to p D N rows roots = givenOf p D N rows roots
 
-given-same : (b : List ℕ) (g : Given) → g .p ≡ half b 0 → g .D ≡ half b 1 → g .N ≡ half b 2 → g .rows ≡ halves b (6 + half b 3) ((half b 1 + 1) * half b 2)
-    → g .roots ≡ halves b 6 (half b 3) → g ≡ jobGiven b
+given-same : (b : List ℕ) (g : Given) → g .p ≡ jobModulus b → g .D ≡ jobDegree b → g .N ≡ jobWidth b → g .rows ≡ halves b (6 + jobCount b) ((jobDegree b + 1) * jobWidth b)
+    → g .roots ≡ halves b 6 (jobCount b) → g ≡ jobGiven b
 unfolding jobGiven
 given-same b g p d n rows roots =
-    let A = halves b (6 + half b 3) ((half b 1 + 1) * half b 2) in
-    let s₀ : g ≡ record { p = half b 0; D = g .D; N = g .N; rows = g .rows; roots = g .roots } = ap (λ (x : ℕ). to x (g .D) (g .N) (g .rows) (g .roots)) p in
-    let s₁ = ap (λ (x : ℕ). to (half b 0) x (g .N) (g .rows) (g .roots)) d in
-    let s₂ = ap (λ (x : ℕ). to (half b 0) (half b 1) x (g .rows) (g .roots)) n in
-    let s₃ = ap (λ (x : List ℕ). to (half b 0) (half b 1) (half b 2) x (g .roots)) rows in
-    let s₄ = ap (λ (x : List ℕ). to (half b 0) (half b 1) (half b 2) A x) roots in
+    let A = halves b (6 + jobCount b) ((jobDegree b + 1) * jobWidth b) in
+    let s₀ : g ≡ givenOf (jobModulus b) (g .D) (g .N) (g .rows) (g .roots) = ap (λ (x : ℕ). to x (g .D) (g .N) (g .rows) (g .roots)) p in
+    let s₁ = ap (λ (x : ℕ). to (jobModulus b) x (g .N) (g .rows) (g .roots)) d in
+    let s₂ = ap (λ (x : ℕ). to (jobModulus b) (jobDegree b) x (g .rows) (g .roots)) n in
+    let s₃ = ap (λ (x : List ℕ). to (jobModulus b) (jobDegree b) (jobWidth b) x (g .roots)) rows in
+    let s₄ = ap (λ (x : List ℕ). to (jobModulus b) (jobDegree b) (jobWidth b) A x) roots in
     s₀ ∙ s₁ ∙ s₂ ∙ s₃ ∙ s₄
 
 -- after a job's own checks, the text is that of open's verdict
-pub wrote-job : (b : List ℕ) (g : Given) {out new : List ℕ} {at : ℕ} → judge (jobChecks b) ≡ Pass → g .p ≡ half b 0 → g .D ≡ half b 1 → g .N ≡ half b 2
-    → g .rows ≡ halves b (6 + half b 3) ((half b 1 + 1) * half b 2) → g .roots ≡ halves b 6 (half b 3) → WroteGiven g out at new
+pub wrote-job : (b : List ℕ) (g : Given) {out new : List ℕ} {at : ℕ} → judge (jobChecks b) ≡ Pass → g .p ≡ jobModulus b → g .D ≡ jobDegree b → g .N ≡ jobWidth b
+    → g .rows ≡ halves b (6 + jobCount b) ((jobDegree b + 1) * jobWidth b) → g .roots ≡ halves b 6 (jobCount b) → WroteGiven g out at new
     → Wrote (listVerdict b) (jobGiven b) out at new
 wrote-job b g {out} {new} {at} e p d n rows roots w =
     let s = subst (λ (x : Given). WroteGiven x out at new) (given-same b g p d n rows roots) w in
-    subst (λ (v : Verdict). Wrote v (jobGiven b) out at new) (sym (list-verdict b 1634 e refl)) s
+    subst (λ (v : Verdict). Wrote v (jobGiven b) out at new) (sym (list-verdict b sheetRoom e refl)) s
 
 -- the text of a job that its own checks refuse
-pub wrote-early : (b : List ℕ) (r : Refusal) {out new : List ℕ} {at : ℕ} → judge (jobChecks b) ≡ Refuse r → Puts 30 (refusedText (r .number) (r .detail)) 0 out at new
+pub wrote-early : (b : List ℕ) (r : Refusal) {out new : List ℕ} {at : ℕ} → judge (jobChecks b) ≡ Refuse r → Puts refusalRoom (refusedText (r .number) (r .detail)) 0 out at new
     → Wrote (listVerdict b) (jobGiven b) out at new
 wrote-early b r e f = record {
   text = refusedText (r .number) (r .detail);
   is = text-refused (listVerdict b) (jobGiven b) r (list-refused b r e);
-  puts = puts-as 9216 (refusedText (r .number) (r .detail)) f refl (omega arith);
+  puts = puts-as textRoom (refusedText (r .number) (r .detail)) f refl (omega arith);
 }
 
 -- a text written is handed over as far as it goes
@@ -339,7 +354,7 @@ module _ (job zeros bytes : List ℕ) (long : ℕ) (w : Wrote (listVerdict job) 
   first-is : take long bytes ≡ w .text
   first-is = ap (take long) (put-over (w .puts)) ∙ take-at (w .text) (drop (length (w .text)) zeros) long (sym first-long)
 
-  pub first-fits : (long ≤ length bytes) × (length (take long bytes) ≤ 9216)
+  pub first-fits : (long ≤ length bytes) × (length (take long bytes) ≤ textRoom)
   first-fits = (omega (arith, w .puts .fits, w .puts .long, first-long), omega (arith, ap length first-is, w .puts .within))
 
   pub listed-all : (text old new : List ℕ) (a : Outcome ℕ) → text ≡ take long bytes → a ≡ result (roomVerdict text old) (length text)
@@ -364,8 +379,8 @@ listed-fits job old new a n is h = go (ltb (length old) (length (h .text))) refl
         let z : n ≡ length (h .text) = cc in
         omega arith
 
--- 9,216 bytes are always room enough
-pub listed-never : {A : Type 0} (job old new : List ℕ) (a : Outcome ℕ) (n d : ℕ) → a ≡ refused n d → 9216 ≤ length old → Listed job old a new → A
+-- the room of every text is always room enough
+pub listed-never : {A : Type 0} (job old new : List ℕ) (a : Outcome ℕ) (n d : ℕ) → a ≡ refused n d → textRoom ≤ length old → Listed job old a new → A
 listed-never job old new a n d is room h =
     unlike (length (h .text)) n d (sym is ∙ h .answers ∙ ap (λ (v : Verdict). result v (length (h .text))) (has-room (h .text) old (omega (arith, h .short))))
 

@@ -12,8 +12,9 @@ use lib.ListN.{length}
 use Rattle.numbers.specs.Words.{word, outside, tabulate}
 use Rattle.numbers.specs.Refusals.{Check, check, judge, modulusChecks}
 use Rattle.numbers.specs.declared.refusal.Verdict.{Verdict}
-use Rattle.sheet.specs.Sheet.{Given}
+use Rattle.sheet.specs.Sheet.{Given, givenOf}
 use Rattle.open.specs.Open.{needed, openChecks}
+use Rattle.text.specs.Limits.{mostDegree, mostWidth, headSize}
 
 unfoldable pub half : List ℕ → ℕ → ℕ
 half b i = word b (2 * i) + 256 * word b (2 * i + 1)
@@ -25,8 +26,8 @@ jobModulus b = half b 0
 abbrev pub jobDegree : List ℕ → ℕ
 jobDegree b = half b 1
 
-abbrev pub jobTerms : List ℕ → ℕ
-jobTerms b = half b 2
+abbrev pub jobWidth : List ℕ → ℕ
+jobWidth b = half b 2
 
 abbrev pub jobCount : List ℕ → ℕ
 jobCount b = half b 3
@@ -38,29 +39,25 @@ halves b o n = tabulate n (λ i. half b (o + i))
 -- the offsets and the length, in bytes, are not what the head says
 abbrev pub misplaced : List ℕ → (D N : ℕ) → Bool
 misplaced b D N =
-    not (eqb (half b 4) 12)
-    || (not (eqb (half b 5) (12 + 2 * jobCount b)) || not (eqb (length b) (12 + 2 * jobCount b + 2 * ((D + 1) * N))))
+    not (eqb (half b 4) headSize)
+    || (not (eqb (half b 5) (headSize + 2 * jobCount b)) || not (eqb (length b) (headSize + 2 * jobCount b + 2 * ((D + 1) * N))))
 
 abbrev pub placeChecks : List ℕ → (D N : ℕ) → List Check
-placeChecks b D N = check 5 (ltb 12 (jobCount b) || misplaced b D N) 0 ∷ []
+placeChecks b D N = check 5 (ltb mostDegree (jobCount b) || misplaced b D N) 0 ∷ []
 
 abbrev pub sizeChecks : List ℕ → List Check
 sizeChecks b =
-    check 3 (outside 1 12 (jobDegree b)) 0
-    ∷ check 4 (outside 1 64 (jobTerms b)) 0
-    ∷ placeChecks b (jobDegree b) (jobTerms b)
+    check 3 (outside 1 mostDegree (jobDegree b)) 0
+    ∷ check 4 (outside 1 mostWidth (jobWidth b)) 0
+    ∷ placeChecks b (jobDegree b) (jobWidth b)
 
 abbrev pub jobChecks : List ℕ → List Check
-jobChecks b = check 5 (ltb (length b) 12) 0 ∷ (modulusChecks (jobModulus b) ++ sizeChecks b)
+jobChecks b = check 5 (ltb (length b) headSize) 0 ∷ (modulusChecks (jobModulus b) ++ sizeChecks b)
 
 unfoldable pub jobGiven : List ℕ → Given
-jobGiven b = record {
-  p = jobModulus b;
-  D = jobDegree b;
-  N = jobTerms b;
-  rows = halves b (6 + jobCount b) ((jobDegree b + 1) * jobTerms b);
-  roots = halves b 6 (jobCount b);
-}
+jobGiven b = givenOf (jobModulus b) (jobDegree b) (jobWidth b)
+    (halves b (6 + jobCount b) ((jobDegree b + 1) * jobWidth b))
+    (halves b 6 (jobCount b))
 
 -- open has room enough here, so that its last row, 10, is never given
 unfoldable pub listVerdict : List ℕ → Verdict

@@ -17,8 +17,9 @@ use Rattle.numbers.specs.declared.refusal.Verdict.{Verdict}
 use Rattle.numbers.specs.declared.refusal.Verdict.the-variants.{Pass, Refuse}
 use Rattle.sheet.specs.Sheet.{Given, Holds}
 use Rattle.open.specs.Open.{openVerdict}
+use Rattle.text.specs.Limits.{sheetRoom, textRoom}
 use Rattle.listing.specs.Job.{jobGiven, listVerdict}
-use Rattle.listing.specs.Text.{listingText, refusedText, Puts}
+use Rattle.text.specs.Text.{listingText, refusedText, Puts}
 
 pub record TextOf (v : Verdict) (g : Given) (text : List ℕ) : Type 0 where
   pub refused : (r : Refusal) → v ≡ Refuse r → text ≡ refusedText (r .number) (r .detail)
@@ -31,11 +32,11 @@ IsListing job text = TextOf (listVerdict job) (jobGiven job) text
 pub record Wrote (v : Verdict) (g : Given) (old : List ℕ) (answer : ℕ) (new : List ℕ) : Type 0 where
   pub text : List ℕ
   pub is : TextOf v g text
-  pub puts : Puts 9216 text 0 old answer new
+  pub puts : Puts textRoom text 0 old answer new
 
--- by open's verdict in a sheet of 1,634 words
+-- by open's verdict in a sheet that has room for every job
 abbrev pub WroteGiven : (g : Given) (old : List ℕ) (answer : ℕ) (new : List ℕ) → Type 0
-WroteGiven g old answer new = Wrote (openVerdict g 1634) g old answer new
+WroteGiven g old answer new = Wrote (openVerdict g sheetRoom) g old answer new
 
 abbrev pub roomVerdict : (text old : List ℕ) → Verdict
 roomVerdict text old = judge (check 10 (ltb (length old) (length text)) (length text) ∷ [])
@@ -43,6 +44,6 @@ roomVerdict text old = judge (check 10 (ltb (length old) (length text)) (length 
 pub record Listed (job old : List ℕ) (answer : Outcome ℕ) (new : List ℕ) : Type 0 where
   pub text : List ℕ
   pub is : IsListing job text
-  pub short : length text ≤ 9216
+  pub short : length text ≤ textRoom
   pub answers : answer ≡ result (roomVerdict text old) (length text)
   pub leaves : new ≡ written (roomVerdict text old) (over text old) old

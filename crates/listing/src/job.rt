@@ -1,12 +1,19 @@
 // Reading a job file: 16-bit words, the low byte first.
+use crate::limits::HEAD_SIZE;
+use crate::limits::MOST_DEGREE;
+use crate::limits::MOST_WIDTH;
 use numbers::judge::check_modulus;
+use numbers::judge::outside;
 use numbers::refusal::Verdict;
 use numbers::refusal::refuse;
 ghost use mathlib.Core.Path.{_≡_};
+ghost use mathlib.Core.Bool.{_||_};
 ghost use Prim.Native.Nat.{_+_, _*_, _≤_, _<_};
+ghost use lib.Dec.{ltb};
 ghost use lib.ListN.{length};
 ghost use Rattle.numbers.specs.Refusals.{judge};
-ghost use Rattle.listing.specs.Job.{«half», halves, placeChecks, sizeChecks, jobChecks};
+ghost use Rattle.text.specs.Limits.{mostDegree, mostWidth, headSize};
+ghost use Rattle.listing.specs.Job.{«half», halves, jobCount, misplaced, sizeChecks, jobChecks};
 
 fn wide(byte: u8) -> u32
     ensures { λ r. ⌜ (r ≡ byte) × (r < 256) ⌝ }
@@ -24,45 +31,39 @@ pub fn half(job: &[u8], i: usize) -> u32
     low + 256 * high
 }
 
-// The limits of D and N, and then whether r, the offsets and the length fit them: nothing is multiplied before the factors are judged.
+// Whether r, the offsets and the length don't fit D and N.
+fn misplaced(job: &[u8], d: u32, n: u32) -> bool
+    requires { ⌜ (headSize ≤ length (now job)) × (d ≤ mostDegree) × (n ≤ mostWidth) ⌝ }
+    ensures { λ r. ⌜ r ≡ (ltb mostDegree (jobCount (now (job .entry))) || misplaced (now (job .entry)) d n) ⌝ }
+{
+    let r = half(job, 3);
+    if MOST_DEGREE < r {
+        return true;
+    }
+    if half(job, 4) != HEAD_SIZE {
+        return true;
+    }
+    if half(job, 5) != HEAD_SIZE + 2 * r {
+        return true;
+    }
+    let long = HEAD_SIZE + 2 * r + 2 * ((d + 1) * n);
+    job.len() != long as usize
+}
+
+// D, N, and then whether the others fit them: nothing is multiplied before the factors are judged.
 fn check_sizes(job: &[u8]) -> Verdict
-    requires { ⌜ 12 ≤ length (now job) ⌝ }
+    requires { ⌜ headSize ≤ length (now job) ⌝ }
     ensures { λ r. ⌜ r ≡ judge (sizeChecks (now (job .entry))) ⌝ }
 {
     let d = half(job, 1);
-    if d < 1 {
-        return refuse(3, 0);
-    }
-    if 12 < d {
+    if outside(1, MOST_DEGREE, d) {
         return refuse(3, 0);
     }
     let n = half(job, 2);
-    if n < 1 {
+    if outside(1, MOST_WIDTH, n) {
         return refuse(4, 0);
     }
-    if 64 < n {
-        return refuse(4, 0);
-    }
-    check_places(job, d, n)
-}
-
-// r, the offsets and the length.
-fn check_places(job: &[u8], d: u32, n: u32) -> Verdict
-    requires { ⌜ (12 ≤ length (now job)) × (d ≤ 12) × (n ≤ 64) ⌝ }
-    ensures { λ r. ⌜ r ≡ judge (placeChecks (now (job .entry)) d n) ⌝ }
-{
-    let r = half(job, 3);
-    if 12 < r {
-        return refuse(5, 0);
-    }
-    if half(job, 4) != 12 {
-        return refuse(5, 0);
-    }
-    if half(job, 5) != 12 + 2 * r {
-        return refuse(5, 0);
-    }
-    let long = 12 + 2 * r + 2 * ((d + 1) * n);
-    if job.len() != long as usize {
+    if misplaced(job, d, n) {
         return refuse(5, 0);
     }
     Verdict::Pass
@@ -72,7 +73,7 @@ fn check_places(job: &[u8], d: u32, n: u32) -> Verdict
 pub fn check_job(job: &[u8]) -> Verdict
     ensures { λ r. ⌜ r ≡ judge (jobChecks (now (job .entry))) ⌝ }
 {
-    if job.len() < 12 {
+    if job.len() < HEAD_SIZE as usize {
         return refuse(5, 0);
     }
     if let Verdict::Refuse(r) = check_modulus(half(job, 0)) {

@@ -10,6 +10,7 @@ use lib.Dec.{eqb}
 use Rattle.algebra.specs.Fp.{Prime, mod-mul-mod}
 use Rattle.numbers.specs.Divisor.{leastDivisor, inverseOf}
 use Rattle.numbers.proofs.WordsLaws.{lt-or-ge, first-is, first-le}
+use Rattle.numbers.specs.Limits.{modulusBound}
 
 -- no number from 2 up to d, d left out, divides p
 abbrev pub None : ℕ → ℕ → Type 0
@@ -66,7 +67,7 @@ none-root p d two small none k lo hi e =
     two-cases (suc zero) l w = omega (arith, one-mul k)
     two-cases (suc (suc q)) l w = omega arith
 
-pub root-small : (d : ℕ) → d * d < 16777216 → d < 4096
+pub root-small : (d : ℕ) → d * d < modulusBound → d < 4096
 root-small d h = ⊎-elim (λ (l : d < 4096). l) (λ (g : 4096 ≤ d). absurd (let f : 4096 * 4096 ≤ d * d = mul-le-mul g g in omega arith)) (lt-or-ge d 4096)
 
 pub below-square : (d : ℕ) → 2 ≤ d → d + 1 ≤ d * d

@@ -1,5 +1,4 @@
 pub mod WordsLaws
 pub mod DivisorLaws
 pub mod RefusalsLaws
-pub mod NumberLaws
 pub mod TestsLaws

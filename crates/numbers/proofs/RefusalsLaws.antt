@@ -4,6 +4,7 @@ use mathlib.Core.Path.{_≡_, refl, sym, ap, _∙_, subst}
 use mathlib.Core.Bool.{Bool, true, false, not, _||_}
 use mathlib.Core.List.{List, [], _∷_, _++_}
 use Prim.Native.Nat.{ℕ, _*_, _≤_, _<_}
+use native.Mathlib.Nat.{mul-le-mul}
 use native.Mathlib.Omega.{arith}
 use borrow.Author.Tests.{ltb-false, not-false, eqb-true, le-ltb}
 use lib.Dec.{ltb, eqb}
@@ -11,12 +12,13 @@ use lib.ListN.{length}
 use Rattle.algebra.specs.Fp.{Prime}
 use Rattle.numbers.specs.Words.{choose, firstLarge, over, outside, AllBelow}
 use Rattle.numbers.specs.Divisor.{leastDivisor}
-use Rattle.numbers.specs.Refusals.{Check, check, judge, refusal, Outcome, accepted, refused, result, written, modulusChecks, unreduced, inputChecks, operationChecks, largestModulus, Leaves}
+use Rattle.numbers.specs.Refusals.{Check, check, judge, refusal, Outcome, accepted, refused, result, written, modulusChecks, unreduced, rowsCheck, widthCheck, lengthsCheck, reducedCheck, roomCheck, inputChecks, operationChecks, Leaves}
 use Rattle.numbers.specs.declared.refusal.Refusal.{Refusal}
 use Rattle.numbers.specs.declared.refusal.Verdict.{Verdict}
 use Rattle.numbers.specs.declared.refusal.Verdict.the-variants.{Pass, Refuse}
 use Rattle.numbers.proofs.WordsLaws.{none-large, below-append}
 use Rattle.numbers.proofs.DivisorLaws.{least-prime, prime-least}
+use Rattle.numbers.specs.Limits.{largestModulus, modulusBound, mostRows, largestWidth}
 
 pub not-pass : {A : Type 0} (r : Refusal) → Refuse r ≡ Pass → A
 not-pass r e = absurd (let z : _≡_ {A = ℕ} 0 1 = cc in omega arith)
@@ -78,6 +80,22 @@ neither false b e = (refl, e)
 pub inside : (low high n : ℕ) → outside low high n ≡ false → (low ≤ n) × (n ≤ high)
 inside low high n e = let (a, b) = neither (ltb n low) (ltb high n) e in (ltb-false n low a, ltb-false high n b)
 
+-- a polynomial has no more rows than its degree bound lets it have
+pub few-rows : (f g rows : ℕ) → ltb mostRows f || (ltb mostRows g || ltb mostRows rows) ≡ false → (f ≤ mostRows) × (g ≤ mostRows) × (rows ≤ mostRows)
+few-rows f g rows e =
+    let (a, b) = neither (ltb mostRows f) (ltb mostRows g || ltb mostRows rows) e in
+    let (c, d) = neither (ltb mostRows g) (ltb mostRows rows) b in
+    (ltb-false mostRows f a, ltb-false mostRows g c, ltb-false mostRows rows d)
+
+pub right-lengths : (a m b n : ℕ) → not (eqb a m) || not (eqb b n) ≡ false → (a ≡ m) × (b ≡ n)
+right-lengths a m b n e =
+    let (x, y) = neither (not (eqb a m)) (not (eqb b n)) e in
+    (eqb-true a m (not-false _ x), eqb-true b n (not-false _ y))
+
+-- the most words that a polynomial has
+pub few-words : (rows N : ℕ) → rows ≤ mostRows → N ≤ largestWidth → rows * N ≤ 8448
+few-words rows N h w = mul-le-mul {n₂ = mostRows} {m₂ = largestWidth} h w
+
 -- exactly one answer and one content of the slice
 pub record One (P : Outcome ℕ → List ℕ → Type 0) : Type 0 where
   pub answer : Outcome ℕ
@@ -85,11 +103,11 @@ pub record One (P : Outcome ℕ → List ℕ → Type 0) : Type 0 where
   pub there : P answer left
   pub only : (a : Outcome ℕ) (new : List ℕ) → P a new → (a ≡ answer) × (new ≡ left)
 
--- p is a modulus: what rows 1 and 2 let pass. (The kernels are proved for every p below 2^24.)
+-- p is a modulus: what checks 1 and 2 let pass. (The kernels are proved for every p below 2^24.)
 pub record Modulus (p : ℕ) : Type 0 where
   pub prime : Prime p
   pub two : 2 ≤ p
-  pub small : p < 16777216
+  pub small : p < modulusBound
 
 pub modulus-pass : (p : ℕ) → judge (modulusChecks p) ≡ Pass → Modulus p
 modulus-pass p e =
@@ -106,14 +124,14 @@ modulus-fine p prime h =
     let two = prime .two-le in
     simp (le-ltb p 2 (omega arith), le-ltb largestModulus p h, le-ltb (leastDivisor p) p (omega (arith, prime-least prime)))
 
--- what is known of an operation's input where rows 1 to 6 pass
+-- what is known of an operation's input where checks 1 to 6 pass
 pub record Inputs (p N : ℕ) (f : List ℕ) (fRows : ℕ) (g : List ℕ) (gRows rows : ℕ) : Type 0 where
   pub modulus : Modulus p
-  pub f-high : fRows ≤ 33
-  pub g-high : gRows ≤ 33
-  pub high : rows ≤ 33
-  pub terms-low : 1 ≤ N
-  pub terms-high : N ≤ 256
+  pub f-high : fRows ≤ mostRows
+  pub g-high : gRows ≤ mostRows
+  pub high : rows ≤ mostRows
+  pub width-low : 1 ≤ N
+  pub width-high : N ≤ largestWidth
   pub f-long : length f ≡ fRows * N
   pub g-long : length g ≡ gRows * N
   pub f-below : AllBelow p f
@@ -126,29 +144,28 @@ pub inputs-pass : (p N : ℕ) (f : List ℕ) (fRows : ℕ) (g : List ℕ) (gRows
     → judge (inputChecks p N f fRows g gRows rows) ≡ Pass → Inputs p N f fRows g gRows rows
 inputs-pass p N f fRows g gRows rows e =
     let m = pass-parts (modulusChecks p) _ e in
-    let a = pass-check (check 3 (ltb 33 fRows || (ltb 33 gRows || ltb 33 rows)) 0) _ (m .1) in
-    let b = pass-check (check 4 (outside 1 256 N) 0) _ (a .1) in
-    let c = pass-check (check 5 (not (eqb (length f) (fRows * N)) || not (eqb (length g) (gRows * N))) 0) _ (b .1) in
-    let d = pass-check (check 6 (unreduced p (f ++ g)) (firstLarge p (f ++ g))) _ (c .1) in
-    let (a1, a2) = neither (ltb 33 fRows) (ltb 33 gRows || ltb 33 rows) (a .0) in
-    let (a3, a4) = neither (ltb 33 gRows) (ltb 33 rows) a2 in
-    let (b1, b2) = neither (ltb N 1) (ltb 256 N) (b .0) in
-    let (c1, c2) = neither (not (eqb (length f) (fRows * N))) (not (eqb (length g) (gRows * N))) (c .0) in
-    let (fb, gb) = below-append p f g (reduced p (f ++ g) (d .0)) in
+    let a = pass-check (rowsCheck fRows gRows rows) _ (m .1) in
+    let b = pass-check (widthCheck N) _ (a .1) in
+    let c = pass-check (lengthsCheck N f fRows g gRows) _ (b .1) in
+    let d = pass-check (reducedCheck p (f ++ g)) _ (c .1) in
+    let (f-few, g-few, few) = few-rows fRows gRows rows (a .0) in
+    let (low, high) = inside 1 largestWidth N (b .0) in
+    let (f-long, g-long) = right-lengths (length f) (fRows * N) (length g) (gRows * N) (c .0) in
+    let (f-below, g-below) = below-append p f g (reduced p (f ++ g) (d .0)) in
     record {
       modulus = modulus-pass p (m .0);
-      f-high = ltb-false 33 fRows a1;
-      g-high = ltb-false 33 gRows a3;
-      high = ltb-false 33 rows a4;
-      terms-low = ltb-false N 1 b1;
-      terms-high = ltb-false 256 N b2;
-      f-long = eqb-true (length f) (fRows * N) (not-false _ c1);
-      g-long = eqb-true (length g) (gRows * N) (not-false _ c2);
-      f-below = fb;
-      g-below = gb;
+      f-high = f-few;
+      g-high = g-few;
+      high = few;
+      width-low = low;
+      width-high = high;
+      f-long = f-long;
+      g-long = g-long;
+      f-below = f-below;
+      g-below = g-below;
     }
 
--- and where row 10 passes too
+-- and where check 10 passes too
 pub record Operation (p N : ℕ) (f : List ℕ) (fRows : ℕ) (g : List ℕ) (gRows rows room : ℕ) : Type 0 where
   pub inputs : Inputs p N f fRows g gRows rows
   pub roomy : rows * N ≤ room
@@ -159,12 +176,8 @@ operation-pass p N f fRows g gRows rows room e =
     let m = pass-parts (inputChecks p N f fRows g gRows rows) _ e in
     record {
       inputs = inputs-pass p N f fRows g gRows rows (m .0);
-      roomy = ltb-false room (rows * N) (pass-check (check 10 (ltb room (rows * N)) (rows * N)) [] (m .1) .0);
+      roomy = ltb-false room (rows * N) (pass-check (roomCheck room (rows * N)) [] (m .1) .0);
     }
-
--- what a check answered is what its checks judge
-pub judged : (cs : List Check) (v w : Verdict) → v ≡ judge cs → v ≡ w → judge cs ≡ w
-judged cs v w e q = sym e ∙ q
 
 -- after a refusal the answer is that refusal, and the words are as they were
 pub answer-refused : {v : Verdict} (r : Refusal) (n : ℕ) (new old : List ℕ) → v ≡ Refuse r

@@ -7,9 +7,9 @@ use mathlib.Core.Path.{_≡_, refl, sym, _∙_, ap, subst}
 use mathlib.Core.Logic.{_↔_, ⊎-elim}
 use mathlib.Core.Bool.{Bool, true, false}
 use mathlib.Core.List.{List, [], _∷_}
-use lib.Dec.{eqb, ltb}
+use lib.Dec.{eqb, leb, ltb}
 use lib.ListN.{getD}
-use borrow.Author.Tests.{eq-eqb, eqb-true, lt-ltb, ltb-true}
+use borrow.Author.Tests.{eq-eqb, eqb-true, eqb-false, leb-true, leb-false, lt-ltb, ltb-true}
 use Rattle.numbers.specs.Words.{choose, allTo, all, Decides}
 use Rattle.numbers.proofs.WordsLaws.{true-false}
 
@@ -88,3 +88,10 @@ decides-yes a = record { yes = λ _. a; no = λ e. true-false e }
 
 pub decides-no : {A : Type 0} → (A → ⊥) → Decides false A
 decides-no n = record { yes = λ e. true-false (sym e); no = λ _. n }
+
+-- a comparison that is an answer
+pub decides-le : {A : Type 0} (m n : ℕ) → (m ≤ n → A) → (A → m ≤ n) → Decides (leb m n) A
+decides-le m n into out = record { yes = λ e. into (leb-true m n e); no = λ e a. let l = leb-false m n e in let u = out a in let z : ⊥ = omega arith in z }
+
+pub decides-eq : {A : Type 0} (m n : ℕ) → (m ≡ n → A) → (A → m ≡ n) → Decides (eqb m n) A
+decides-eq m n into out = record { yes = λ e. into (eqb-true m n e); no = λ e a. eqb-false m n e (out a) }

@@ -1,4 +1,4 @@
 pub mod Words
 pub mod Refusals
 pub mod Divisor
-pub mod Number
+pub mod Limits

@@ -1,17 +1,18 @@
 -- Refusals by number: how every operation judges what it is given.
---   largestModulus      the largest modulus
 --   check n b d         a row of document 01's table: number n is given when b holds, with detail d
 --   judge checks        the first check of the list that applies: the checks stand in number order
 --   result v x          the outcome that follows a verdict: a pass is accepted with x
 --   outcome r           document 01's number and values for each case of an answer
 --   written v new old   the words after the call: a refusal leaves the old ones
 --   Leaves v Met old new   the same where what is written is given by conditions
---   modulusChecks p     rows 1 and 2
---   unreduced p s       row 6 for the words s; its detail is firstLarge p s
---   shapeChecks ..      rows 3 to 6 for an operation that takes fRows rows f and gRows rows g of N words each and gives `rows` rows:
+--   modulusChecks p     refusals 1 and 2
+--   unreduced p s       refusal 6 for the words s; its detail is firstLarge p s
+--   rowsCheck, widthCheck, lengthsCheck, reducedCheck, roomCheck, beyondCheck, behindCheck   refusals 3, 4, 5, 6, 10, 14 and 15, as several
+--                       operations have them
+--   shapeChecks ..      refusals 3 to 6 for an operation that takes fRows rows f and gRows rows g of N words each and gives `rows` rows:
 --                       a degree bound is above 32 where there are more than 33 rows
---   inputChecks ..      rows 1 to 6 for such an operation
---   operationChecks ..  and row 10, for an output of `room` words
+--   inputChecks ..      refusals 1 to 6 for such an operation
+--   operationChecks ..  and refusal 10, for an output of `room` words
 -- Assumes nothing.
 use Prim.Native.Nat.{ℕ, _*_}
 use mathlib.Core.Path.{_≡_}
@@ -26,9 +27,7 @@ use Rattle.numbers.specs.declared.refusal.Verdict.{Verdict}
 use Rattle.numbers.specs.declared.refusal.Verdict.the-variants.{Pass, Refuse}
 use Rattle.numbers.specs.declared.refusal.Answer.{Answer}
 use Rattle.numbers.specs.declared.refusal.Answer.the-variants.{Done, Refused}
-
-abbrev pub largestModulus : ℕ
-largestModulus = 65535
+use Rattle.numbers.specs.Limits.{largestModulus, mostRows, largestWidth}
 
 abbrev pub refusal : ℕ → ℕ → Refusal
 refusal n d = record { number = n; detail = d }
@@ -75,12 +74,34 @@ modulusChecks p =
 abbrev pub unreduced : ℕ → List ℕ → Bool
 unreduced p s = ltb (firstLarge p s) (length s)
 
+-- rows of the table that several operations have
+abbrev pub widthCheck : ℕ → Check
+widthCheck N = check 4 (outside 1 largestWidth N) 0
+
+abbrev pub rowsCheck : (fRows gRows rows : ℕ) → Check
+rowsCheck fRows gRows rows = check 3 (ltb mostRows fRows || (ltb mostRows gRows || ltb mostRows rows)) 0
+
+abbrev pub lengthsCheck : (N : ℕ) (f : List ℕ) (fRows : ℕ) (g : List ℕ) (gRows : ℕ) → Check
+lengthsCheck N f fRows g gRows = check 5 (not (eqb (length f) (fRows * N)) || not (eqb (length g) (gRows * N))) 0
+
+abbrev pub reducedCheck : ℕ → List ℕ → Check
+reducedCheck p s = check 6 (unreduced p s) (firstLarge p s)
+
+abbrev pub roomCheck : (room words : ℕ) → Check
+roomCheck room words = check 10 (ltb room words) words
+
+abbrev pub beyondCheck : (most w : ℕ) → Check
+beyondCheck most w = check 14 (outside 1 most w) 0
+
+abbrev pub behindCheck : (terms w : ℕ) → Check
+behindCheck terms w = check 15 (ltb w terms) 0
+
 abbrev pub shapeChecks : (p N : ℕ) (f : List ℕ) (fRows : ℕ) (g : List ℕ) (gRows rows : ℕ) → List Check
 shapeChecks p N f fRows g gRows rows =
-    check 3 (ltb 33 fRows || (ltb 33 gRows || ltb 33 rows)) 0
-    ∷ check 4 (outside 1 256 N) 0
-    ∷ check 5 (not (eqb (length f) (fRows * N)) || not (eqb (length g) (gRows * N))) 0
-    ∷ check 6 (unreduced p (f ++ g)) (firstLarge p (f ++ g))
+    rowsCheck fRows gRows rows
+    ∷ widthCheck N
+    ∷ lengthsCheck N f fRows g gRows
+    ∷ reducedCheck p (f ++ g)
     ∷ []
 
 abbrev pub inputChecks : (p N : ℕ) (f : List ℕ) (fRows : ℕ) (g : List ℕ) (gRows rows : ℕ) → List Check
@@ -88,4 +109,4 @@ inputChecks p N f fRows g gRows rows = modulusChecks p ++ shapeChecks p N f fRow
 
 abbrev pub operationChecks : (p N : ℕ) (f : List ℕ) (fRows : ℕ) (g : List ℕ) (gRows rows room : ℕ) → List Check
 operationChecks p N f fRows g gRows rows room =
-    inputChecks p N f fRows g gRows rows ++ (check 10 (ltb room (rows * N)) (rows * N) ∷ [])
+    inputChecks p N f fRows g gRows rows ++ (roomCheck room (rows * N) ∷ [])

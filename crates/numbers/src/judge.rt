@@ -1,24 +1,35 @@
 // The checks that operations share, in the order of document 01's table.
 use crate::kernel::least_divisor;
+use crate::limits::LARGEST_MODULUS;
+use crate::limits::LARGEST_WIDTH;
+use crate::limits::MOST_ROWS;
 use crate::refusal::Verdict;
 use crate::refusal::refuse;
 ghost use mathlib.Core.Path.{_≡_};
+ghost use mathlib.Core.Bool.{not, _||_};
 ghost use mathlib.Core.List.{_++_};
 ghost use Prim.Native.Nat.{_+_, _*_, _<_};
+ghost use lib.Dec.{ltb, eqb};
 ghost use lib.ListN.{length};
-ghost use Rattle.numbers.specs.Words.{firstLarge};
+ghost use Rattle.numbers.specs.Words.{firstLarge, outside};
+ghost use Rattle.numbers.specs.Limits.{mostRows};
 ghost use Rattle.numbers.specs.Refusals.{judge, modulusChecks, inputChecks, operationChecks};
 
-const LARGEST_MODULUS: u32 = 65535;
+// Whether n is below low or above high.
+pub fn outside(low: u32, high: u32, n: u32) -> bool
+    ensures { λ r. ⌜ r ≡ outside low high n ⌝ }
+{
+    if n < low {
+        return true;
+    }
+    high < n
+}
 
-// Rows 1 and 2.
+// Refusals 1 and 2.
 pub fn check_modulus(p: u32) -> Verdict
     ensures { λ r. ⌜ r ≡ judge (modulusChecks p) ⌝ }
 {
-    if p < 2 {
-        return refuse(1, 0);
-    }
-    if LARGEST_MODULUS < p {
+    if outside(2, LARGEST_MODULUS, p) {
         return refuse(1, 0);
     }
     let d = least_divisor(p);
@@ -54,7 +65,30 @@ fn first_large_of_two(p: u32, f: &[u32], g: &[u32]) -> usize
     i + first_large(p, g)
 }
 
-// Rows 1 to 6 for an operation that takes frows rows f and grows rows g of n words each, and gives `rows` rows. Nothing is
+// Whether one of these is the number of rows of no polynomial: a degree bound above the largest.
+fn too_many_rows(frows: usize, grows: usize, rows: usize) -> bool
+    ensures { λ r. ⌜ r ≡ (ltb mostRows frows || (ltb mostRows grows || ltb mostRows rows)) ⌝ }
+{
+    if MOST_ROWS < frows {
+        return true;
+    }
+    if MOST_ROWS < grows {
+        return true;
+    }
+    MOST_ROWS < rows
+}
+
+// Whether one of two slices has not the words that it should have.
+fn other_lengths(f: usize, fwords: usize, g: usize, gwords: usize) -> bool
+    ensures { λ r. ⌜ r ≡ (not (eqb f fwords) || not (eqb g gwords)) ⌝ }
+{
+    if f != fwords {
+        return true;
+    }
+    g != gwords
+}
+
+// Refusals 1 to 6 for an operation that takes frows rows f and grows rows g of n words each, and gives `rows` rows. Nothing is
 // multiplied before the factors are judged.
 pub fn check_inputs(
     p: u32,
@@ -71,26 +105,14 @@ pub fn check_inputs(
     if let Verdict::Refuse(_) = v {
         return v;
     }
-    if 33 < frows {
+    if too_many_rows(frows, grows, rows) {
         return refuse(3, 0);
     }
-    if 33 < grows {
-        return refuse(3, 0);
-    }
-    if 33 < rows {
-        return refuse(3, 0);
-    }
-    if n < 1 {
-        return refuse(4, 0);
-    }
-    if 256 < n {
+    if outside(1, LARGEST_WIDTH, n) {
         return refuse(4, 0);
     }
     let width = n as usize;
-    if f.len() != frows * width {
-        return refuse(5, 0);
-    }
-    if g.len() != grows * width {
+    if other_lengths(f.len(), frows * width, g.len(), grows * width) {
         return refuse(5, 0);
     }
     let at = first_large_of_two(p, f, g);
@@ -100,7 +122,7 @@ pub fn check_inputs(
     Verdict::Pass
 }
 
-// And row 10: the output has `room` words.
+// And refusal 10: the output has `room` words.
 pub fn check_operation(
     p: u32,
     n: u32,

@@ -4,10 +4,11 @@ ghost use mathlib.Core.Path.{_≡_};
 ghost use Prim.Native.Nat.{_*_, _≤_, _<_, _%_};
 ghost use Rattle.algebra.specs.Fp.{Prime};
 ghost use Rattle.numbers.specs.Divisor.{leastDivisor, inverseOf};
+ghost use Rattle.numbers.specs.Limits.{modulusBound};
 
 // Trial division: the first d that divides p is the least; where d * d is past p, only p itself is left.
 pub fn least_divisor(p: u32) -> u32
-    requires { ⌜ (2 ≤ p) × (p < 16777216) ⌝ }
+    requires { ⌜ (2 ≤ p) × (p < modulusBound) ⌝ }
     ensures { λ r. ⌜ r ≡ leastDivisor p ⌝ }
 {
     let mut d: u32 = 2;
@@ -24,7 +25,7 @@ pub fn least_divisor(p: u32) -> u32
 
 // The inverse of a modulo the prime p. With p = q * m + r, r is -q times m: so m falls to 1, while c * a stays m modulo p.
 pub fn inverse_of(p: u32, a: u32) -> u32
-    requires { ⌜ (1 ≤ a) × (a < p) × (p < 16777216) × Prime p ⌝ }
+    requires { ⌜ (1 ≤ a) × (a < p) × (p < modulusBound) × Prime p ⌝ }
     ensures { λ r. ⌜ r ≡ inverseOf p a ⌝ }
 {
     let modulus = p as u64;

@@ -25,3 +25,9 @@ pub fn refuse(number: u32, detail: u32) -> Verdict
 {
     Verdict::Refuse(Refusal { number, detail })
 }
+
+pub fn refused(number: u32, detail: u32) -> Answer
+    ensures { λ r. ⌜ r ≡ Answer.Refused (refusal number detail) ⌝ }
+{
+    Answer::Refused(Refusal { number, detail })
+}

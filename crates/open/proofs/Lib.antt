@@ -1,13 +1,10 @@
-pub mod FindingLaws
 pub mod OpenChecksLaws
 pub mod OpenLaws
 pub mod OpenSplitLaws
 pub mod OpenTotalLaws
 pub mod OpeningLaws
 pub mod PowersFoundLaws
-pub mod PowersLaws
 pub mod OpenCheckedLaws
-pub mod LineLaws
 pub mod WritingLaws
 pub mod SheetWritingLaws
 pub mod OpenDoneLaws

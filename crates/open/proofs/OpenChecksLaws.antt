@@ -1,34 +1,49 @@
 -- The checks of open: their parts, and what each part that passes says.
 --   open-rows-split        the checks of open are the three parts, one after the other
+--   longCheck, wordsCheck, topTest, rootsCheck   refusals 5, 6, 7 and 8, by name
 --   unit-fails, unit-passes, rising-fails, rising-passes   what the two loops find
---   Shape, shape-pass      what rows 1 to 6 let pass
+--   large-rows, large-roots, large-none   refusal 6, by the first large words
+--   PolynomialPass, polynomial-pass   what checks 1 to 6 let pass
 --   row-test               row D of the polynomial is the part of the rows that the loop looks at
---   Listed, listed-pass    what rows 1 to 8 let pass
+--   ListPass, list-pass    what checks 1 to 8 let pass
 -- Assumes nothing.
 use Prim.Native.Nat.{ℕ, zero, suc, _+_, _-_, _*_, _≤_, _<_}
-use native.Mathlib.Nat.{eq-or-lt-of-le}
+use native.Mathlib.Nat.{eq-or-lt-of-le, mod-eq-of-lt}
 use native.Mathlib.Omega.{arith}
 use mathlib.Core.Path.{_≡_, refl, sym, _∙_, ap, subst}
 use mathlib.Core.Logic.{_≢_, ⊎-elim}
-use mathlib.Core.Bool.{true, false, not, _||_}
-use mathlib.Core.List.{List, [], _++_}
+use mathlib.Core.Bool.{Bool, true, false, not, _||_}
+use mathlib.Core.List.{List, [], _∷_, _++_}
 use borrow.Author.Tests.{lt-ltb, le-ltb, ne-eqb, not-false, eqb-true, ltb-true}
 use lib.Dec.{ltb, eqb}
-use lib.ListN.{length, take, drop}
+use lib.ListN.{length, take, drop, length-append}
 use lib.Seq.{getD-take, getD-drop}
 use Rattle.numbers.specs.Words.{word, allTo, firstLarge, outside, lowWord, AllBelow}
-use Rattle.numbers.specs.Refusals.{check, judge, modulusChecks, unreduced, largestModulus}
-use Rattle.numbers.specs.declared.refusal.Verdict.the-variants.{Pass}
-use Rattle.numbers.proofs.WordsLaws.{below-append}
+use Rattle.numbers.specs.Refusals.{Check, check, judge, refusal, modulusChecks, unreduced, widthCheck}
+use Rattle.numbers.specs.declared.refusal.Verdict.the-variants.{Pass, Refuse}
+use Rattle.numbers.proofs.WordsLaws.{below-append, large-first, large-second, large-le}
 use Rattle.numbers.proofs.TestsLaws.{eqs, allTo-at, allTo-false, at-allTo, allTo-ext}
-use Rattle.numbers.proofs.RefusalsLaws.{Modulus, modulus-pass, pass-parts, pass-check, neither, reduced, inside}
+use Rattle.numbers.proofs.RefusalsLaws.{Modulus, modulus-pass, pass-parts, pass-check, take-check, skip-check, none-judged, neither, reduced, inside}
+use Rattle.numbers.specs.Limits.{largestModulus, largestDegree, largestWidth}
 use Rattle.rows.proofs.RowsLaws.{length-part, row-fits}
 use Rattle.rows.specs.Rows.{unit}
 use Rattle.sheet.specs.Sheet.{Given, given-polynomial}
-use Rattle.open.specs.Open.{openVerdict}
-use Rattle.open.specs.Opening.{isUnit, rising, shapeOnly, shapeRows, listRows, splitRows}
+use Rattle.open.specs.Open.{openVerdict, isUnit, rising, sizeChecks, polynomialChecks, listChecks, splitChecks}
 
-pub open-rows-split : (g : Given) (room : ℕ) → openVerdict g room ≡ judge ((shapeRows g ++ listRows g) ++ splitRows g room)
+-- the rows that only open has: 5, 6, 7 and 8
+abbrev pub longCheck : Given → Check
+longCheck g = check 5 (not (eqb (length (g .rows)) ((g .D + 1) * g .N))) 0
+
+abbrev pub wordsCheck : Given → Check
+wordsCheck g = check 6 (unreduced (g .p) (g .rows ++ g .roots)) (lowWord (firstLarge (g .p) (g .rows ++ g .roots)))
+
+abbrev pub topTest : Given → Bool
+topTest g = allTo (g .N) (λ t. eqb (given-polynomial g (g .D) t) (unit t))
+
+abbrev pub rootsCheck : Given → Check
+rootsCheck g = check 8 (outside 1 (g .D) (length (g .roots)) || not (rising (g .roots))) 0
+
+pub open-rows-split : (g : Given) (room : ℕ) → openVerdict g room ≡ judge ((polynomialChecks g ++ listChecks g) ++ splitChecks g room)
 unfolding openVerdict
 open-rows-split g room = refl
 
@@ -50,27 +65,49 @@ rising-fails s (suc i) l g h =
 pub rising-passes : (s : List ℕ) (i : ℕ) → length s ≤ i → ((k : ℕ) → suc k < i → word s k < word s (suc k)) → true ≡ rising s
 rising-passes s i l h = sym (at-allTo (length s - 1) (λ i. ltb (word s i) (word s (suc i))) (λ k g. lt-ltb (word s k) (word s (suc k)) (h k (omega arith))))
 
--- what rows 1 to 6 let pass
-pub record Shape (g : Given) : Type 0 where
+-- refusal 6, by the first large word of the rows and by that of the roots
+module _ (g : Given) (at : ℕ) (is : at ≡ firstLarge (g .p) (g .rows)) where
+  pub large-rows : at < length (g .rows) → length (g .rows) ≤ 8448 → judge (wordsCheck g ∷ []) ≡ Refuse (refusal 6 at)
+  large-rows l small =
+      let q : firstLarge (g .p) (g .rows ++ g .roots) ≡ at = large-first (g .p) (g .rows) (g .roots) (omega arith) ∙ sym is in
+      take-check (wordsCheck g) [] (lt-ltb (firstLarge (g .p) (g .rows ++ g .roots)) (length (g .rows ++ g .roots)) (omega (arith, length-append (g .rows) (g .roots))))
+      ∙ ap (λ (n : ℕ). Refuse (refusal 6 n)) (ap lowWord q ∙ mod-eq-of-lt (omega arith))
+
+  module _ (none : length (g .rows) ≤ at) (more : ℕ) (more-is : more ≡ firstLarge (g .p) (g .roots)) where
+    large-on : firstLarge (g .p) (g .rows ++ g .roots) ≡ more + at
+    large-on =
+        let l = large-le (g .p) (g .rows) in
+        large-second (g .p) (g .rows) (g .roots) (omega arith) ∙ (let z : length (g .rows) + firstLarge (g .p) (g .roots) ≡ more + at = omega arith in z)
+
+    pub large-roots : more < length (g .roots) → judge (wordsCheck g ∷ []) ≡ Refuse (refusal 6 (lowWord (more + at)))
+    large-roots l =
+        take-check (wordsCheck g) [] (let q = large-on in let e = large-le (g .p) (g .rows) in lt-ltb (firstLarge (g .p) (g .rows ++ g .roots)) (length (g .rows ++ g .roots)) (omega (arith, length-append (g .rows) (g .roots))))
+        ∙ ap (λ (n : ℕ). Refuse (refusal 6 (lowWord n))) large-on
+
+    pub large-none : length (g .roots) ≤ more → judge (wordsCheck g ∷ []) ≡ Pass
+    large-none l = skip-check (wordsCheck g) [] (let q = large-on in le-ltb (firstLarge (g .p) (g .rows ++ g .roots)) (length (g .rows ++ g .roots)) (omega (arith, length-append (g .rows) (g .roots)))) ∙ none-judged
+
+-- what checks 1 to 6 let pass
+pub record PolynomialPass (g : Given) : Type 0 where
   pub modulus : Modulus (g .p)
   pub small : g .p ≤ largestModulus
   pub degree-low : 1 ≤ g .D
-  pub degree-high : g .D ≤ 32
+  pub degree-high : g .D ≤ largestDegree
   pub width-low : 1 ≤ g .N
-  pub width-high : g .N ≤ 256
+  pub width-high : g .N ≤ largestWidth
   pub long : length (g .rows) ≡ (g .D + 1) * g .N
   pub rows-below : AllBelow (g .p) (g .rows)
   pub roots-below : AllBelow (g .p) (g .roots)
 
-pub shape-pass : (g : Given) → judge (shapeRows g) ≡ Pass → Shape g
-shape-pass g pass =
-    let m = pass-parts (modulusChecks (g .p)) (shapeOnly g) pass in
-    let c₃ = pass-check (check 3 (outside 1 32 (g .D)) 0) _ (m .1) in
-    let d = inside 1 32 (g .D) (c₃ .0) in
-    let c₄ = pass-check (check 4 (outside 1 256 (g .N)) 0) _ (c₃ .1) in
-    let n = inside 1 256 (g .N) (c₄ .0) in
-    let c₅ = pass-check (check 5 (not (eqb (length (g .rows)) ((g .D + 1) * g .N))) 0) _ (c₄ .1) in
-    let c₆ = pass-check (check 6 (unreduced (g .p) (g .rows ++ g .roots)) (lowWord (firstLarge (g .p) (g .rows ++ g .roots)))) _ (c₅ .1) in
+pub polynomial-pass : (g : Given) → judge (polynomialChecks g) ≡ Pass → PolynomialPass g
+polynomial-pass g pass =
+    let m = pass-parts (modulusChecks (g .p)) (sizeChecks g) pass in
+    let c₃ = pass-check (check 3 (outside 1 largestDegree (g .D)) 0) _ (m .1) in
+    let d = inside 1 largestDegree (g .D) (c₃ .0) in
+    let c₄ = pass-check (widthCheck (g .N)) _ (c₃ .1) in
+    let n = inside 1 largestWidth (g .N) (c₄ .0) in
+    let c₅ = pass-check (longCheck g) _ (c₄ .1) in
+    let c₆ = pass-check (wordsCheck g) _ (c₅ .1) in
     let low = below-append (g .p) (g .rows) (g .roots) (reduced (g .p) (g .rows ++ g .roots) (c₆ .0)) in
     record {
       modulus = modulus-pass (g .p) (m .0);
@@ -108,28 +145,28 @@ one-first s e (suc k) l = absurd (let z : ⊥ = omega arith in z)
 pub rising-more : (s : List ℕ) (i : ℕ) → 1 ≤ i → ((k : ℕ) → suc k < i → word s k < word s (suc k)) → word s (i - 1) < word s i → (k : ℕ) → suc k < i + 1 → word s k < word s (suc k)
 rising-more s i low h last k l = ⊎-elim (λ (e : suc k ≡ i). subst (λ n. word s n < word s (suc k)) (let z : suc k - 1 ≡ k = omega arith in z) (subst (λ n. word s (n - 1) < word s n) (sym e) last)) (λ g. h k g) (eq-or-lt-of-le (let z : suc k ≤ i = omega arith in z))
 
--- what rows 1 to 8 let pass
-pub record Listed (g : Given) : Type 0 where
-  pub shape : Shape g
+-- what checks 1 to 8 let pass
+pub record ListPass (g : Given) : Type 0 where
+  pub polynomial : PolynomialPass g
   pub top : (t : ℕ) → t < g .N → given-polynomial g (g .D) t ≡ unit t
   pub count-low : 1 ≤ length (g .roots)
   pub count-high : length (g .roots) ≤ g .D
   pub up : (i : ℕ) → suc i < length (g .roots) → word (g .roots) i < word (g .roots) (suc i)
 
-pub listed-pass : (g : Given) → judge (shapeRows g ++ listRows g) ≡ Pass → Listed g
-listed-pass g pass =
-    let m = pass-parts (shapeRows g) (listRows g) pass in
-    let c₇ = pass-check (check 7 (not (allTo (g .N) (λ t. eqb (given-polynomial g (g .D) t) (unit t)))) 0) _ (m .1) in
-    let c₈ = pass-check (check 8 (outside 1 (g .D) (length (g .roots)) || not (rising (g .roots))) 0) [] (c₇ .1) in
+pub list-pass : (g : Given) → judge (polynomialChecks g ++ listChecks g) ≡ Pass → ListPass g
+list-pass g pass =
+    let m = pass-parts (polynomialChecks g) (listChecks g) pass in
+    let c₇ = pass-check (check 7 (not (topTest g)) 0) _ (m .1) in
+    let c₈ = pass-check (rootsCheck g) [] (c₇ .1) in
     let n = neither (outside 1 (g .D) (length (g .roots))) (not (rising (g .roots))) (c₈ .0) in
     let r = inside 1 (g .D) (length (g .roots)) (n .0) in
     record {
-      shape = shape-pass g (m .0);
-      top = eqs (g .N) _ _ .0 (not-false (allTo (g .N) (λ t. eqb (given-polynomial g (g .D) t) (unit t))) (c₇ .0));
+      polynomial = polynomial-pass g (m .0);
+      top = eqs (g .N) _ _ .0 (not-false (topTest g) (c₇ .0));
       count-low = r .0;
       count-high = r .1;
       up = λ i u. ltb-true _ _ (allTo-at (length (g .roots) - 1) (λ i. ltb (word (g .roots) i) (word (g .roots) (suc i))) (not-false (rising (g .roots)) (n .1)) i (omega arith));
     }
 
-pub listed-small : (g : Given) → Listed g → (g .D ≤ 32) × (g .N ≤ 256) × (length (g .roots) ≤ 32)
-listed-small g h = let d = h .shape .degree-high in let r = h .count-high in (d, h .shape .width-high, omega arith)
+pub list-small : (g : Given) → ListPass g → (g .D ≤ largestDegree) × (g .N ≤ largestWidth) × (length (g .roots) ≤ largestDegree)
+list-small g h = let d = h .polynomial .degree-high in let r = h .count-high in (d, h .polynomial .width-high, omega arith)

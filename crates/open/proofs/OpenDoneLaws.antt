@@ -14,12 +14,13 @@ use Rattle.numbers.specs.Refusals.{judge, Outcome, accepted, refused, result, L
 use Rattle.numbers.specs.declared.refusal.Verdict.{Verdict}
 use Rattle.numbers.specs.declared.refusal.Verdict.the-variants.{Pass, Refuse}
 use Rattle.numbers.proofs.RefusalsLaws.{pass-parts}
+use Rattle.numbers.specs.Limits.{largestDegree}
 use Rattle.sheet.specs.Sheet.{Given}
 use Rattle.sheet.proofs.ContentLaws.{size}
-use Rattle.open.specs.Open.{powersOf, needed, openVerdict, OpenDone, Opened}
-use Rattle.open.specs.Opening.{shapeRows, listRows, splitRows, CheckedOpen}
+use Rattle.open.specs.Open.{powersOf, needed, openVerdict, OpenDone, Opened, polynomialChecks, listChecks, splitChecks}
+use Rattle.open.specs.Opening.{CheckedOpen}
 use Rattle.open.specs.Writing.{freshContent, freshWords, FreshReady}
-use Rattle.open.proofs.OpenChecksLaws.{Listed, listed-pass, open-rows-split}
+use Rattle.open.proofs.OpenChecksLaws.{ListPass, list-pass, open-rows-split}
 use Rattle.open.proofs.OpenLaws.{found-count}
 use Rattle.open.proofs.OpeningLaws.{open-ready, openWords, open-done}
 use Rattle.open.proofs.SheetWritingLaws.{open-fresh, ready-fresh, needed-fresh}
@@ -42,11 +43,11 @@ module _ (g : Given) (old : List ℕ) (T : ℕ) (found : List ℕ) (a : Outcome 
       go Pass q e = (q, let z : T ≡ needed g = cc in z)
       go (Refuse r) q e = unlike T (r .number) (r .detail) (sym e)
 
-  before : judge (shapeRows g ++ listRows g) ≡ Pass
-  before = pass-parts (shapeRows g ++ listRows g) (splitRows g (length old)) (sym (open-rows-split g (length old)) ∙ passes .0) .0
+  before : judge (polynomialChecks g ++ listChecks g) ≡ Pass
+  before = pass-parts (polynomialChecks g ++ listChecks g) (splitChecks g (length old)) (sym (open-rows-split g (length old)) ∙ passes .0) .0
 
-  pub open-listed : Listed g
-  open-listed = listed-pass g before
+  pub open-list : ListPass g
+  open-list = list-pass g before
 
   abbrev first : List ℕ
   first = take (length (g .roots)) found
@@ -54,7 +55,7 @@ module _ (g : Given) (old : List ℕ) (T : ℕ) (found : List ℕ) (a : Outcome 
   found-is : powersOf g ≡ some first
   found-is = h .powers (passes .0)
 
-  pub open-room : length found ≡ 32
+  pub open-room : length found ≡ largestDegree
   open-room = h .long (passes .0)
 
   pub write-ready : FreshReady g first × (length (g .rows) ≡ (g .D + 1) * g .N) × (length first ≡ length (g .roots)) × (T ≡ size (freshContent g first)) × (T ≤ length old)
@@ -63,7 +64,7 @@ module _ (g : Given) (old : List ℕ) (T : ℕ) (found : List ℕ) (a : Outcome 
       let t = passes .1 in
       let r = o .1 in (
         ready-fresh g first found-is (o .0),
-        open-listed .shape .long,
+        open-list .polynomial .long,
         found-count g first found-is,
         t ∙ needed-fresh g first,
         omega arith,

@@ -20,8 +20,8 @@ use Rattle.algebra.specs.Fp.{Prime}
 use Rattle.numbers.specs.Words.{word}
 use Rattle.numbers.proofs.WordsLaws.{true-false}
 use Rattle.numbers.proofs.TestsLaws.{eqs}
-use Rattle.split.specs.Factors.{split}
-use Rattle.sheet.specs.Layout.{end}
+use Rattle.hensel.specs.Factors.{split}
+use Rattle.layout.specs.Layout.{end}
 use Rattle.sheet.specs.Sheet.{Given, given-polynomial, Holds}
 use Rattle.open.specs.Open.{upwards, choices, find, splitsTest, powersOf, needed}
 use Rattle.sheet.proofs.SoundTestLaws.{upto, upto-back}

@@ -1,4 +1,4 @@
--- Rows 9 and 10 of open, after rows 1 to 8 have passed.
+-- Refusals 9 and 10 of open, after checks 1 to 8 have passed.
 --   split-none, split-short, split-pass   the verdict, by what `powers_of` finds and by T
 -- Assumes nothing.
 use Prim.Native.Nat.{ℕ, _≤_, _<_}
@@ -11,13 +11,12 @@ use Rattle.numbers.specs.Refusals.{check, judge, refusal}
 use Rattle.numbers.specs.declared.refusal.Verdict.the-variants.{Pass, Refuse}
 use Rattle.numbers.proofs.RefusalsLaws.{after-pass, take-check, skip-check, none-judged}
 use Rattle.sheet.specs.Sheet.{Given}
-use Rattle.open.specs.Open.{powersOf, isNone, needed, openVerdict}
-use Rattle.open.specs.Opening.{shapeRows, listRows, splitRows}
+use Rattle.open.specs.Open.{powersOf, isNone, needed, openVerdict, polynomialChecks, listChecks, splitChecks}
 use Rattle.open.proofs.OpenChecksLaws.{open-rows-split}
 
-module _ (g : Given) (room : ℕ) (pass : judge (shapeRows g ++ listRows g) ≡ Pass) where
-  past : openVerdict g room ≡ judge (splitRows g room)
-  past = open-rows-split g room ∙ after-pass (shapeRows g ++ listRows g) (splitRows g room) pass
+module _ (g : Given) (room : ℕ) (pass : judge (polynomialChecks g ++ listChecks g) ≡ Pass) where
+  past : openVerdict g room ≡ judge (splitChecks g room)
+  past = open-rows-split g room ∙ after-pass (polynomialChecks g ++ listChecks g) (splitChecks g room) pass
 
   pub split-none : powersOf g ≡ none → openVerdict g room ≡ Refuse (refusal 9 0)
   split-none e = past ∙ take-check (check 9 (isNone (powersOf g)) 0) _ (ap isNone e)

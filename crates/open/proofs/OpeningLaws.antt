@@ -20,16 +20,15 @@ use Rattle.numbers.specs.Refusals.{check}
 use Rattle.numbers.specs.declared.refusal.Verdict.the-variants.{Pass}
 use Rattle.numbers.proofs.WordsLaws.{true-false, length-over}
 use Rattle.numbers.proofs.RefusalsLaws.{pass-parts, pass-check, reduced}
-use Rattle.sheet.specs.Layout.{modulus, degree, width, terms, count}
+use Rattle.layout.specs.Layout.{modulus, degree, width, terms, count}
 use Rattle.sheet.specs.Sheet.{Given, given-polynomial, Holds}
-use Rattle.open.specs.Open.{powersOf, isNone, needed, openVerdict, OpenDone}
-use Rattle.sheet.proofs.RegionsLaws.{in-rows}
+use Rattle.open.specs.Open.{powersOf, isNone, needed, openVerdict, OpenDone, polynomialChecks, listChecks, splitChecks}
+use Rattle.layout.proofs.RegionsLaws.{in-rows}
 use Rattle.sheet.proofs.ContentLaws.{Content, size, sheetWords, length-sheet}
 use Rattle.sheet.proofs.SheetsLaws.{Good, words-content, words-end, words-sound}
 use Rattle.sheet.proofs.UniqueLaws.{holds-unique}
 use Rattle.sheet.proofs.BuildLaws.{built, start, Ready, solved, solved-good, start-good}
-use Rattle.open.specs.Opening.{shapeRows, listRows, splitRows}
-use Rattle.open.proofs.OpenChecksLaws.{listed-pass, open-rows-split}
+use Rattle.open.proofs.OpenChecksLaws.{list-pass, open-rows-split}
 use Rattle.open.proofs.OpenLaws.{powers-are, needed-is}
 
 some-of : (o : Option (List ℕ)) → isNone o ≡ false → (l : List ℕ) × (o ≡ some l)
@@ -49,9 +48,9 @@ GivenReady g = Ready (g .p) (g .D) (g .N) (length (g .roots)) (word (g .roots)) 
 
 pub open-ready : (g : Given) (room : ℕ) → openVerdict g room ≡ Pass → GivenReady g × (needed g ≤ room)
 open-ready g room pass =
-    let parts = pass-parts (shapeRows g ++ listRows g) (splitRows g room) (sym (open-rows-split g room) ∙ pass) in
-    let h = listed-pass g (parts .0) in
-    let s = h .shape in
+    let parts = pass-parts (polynomialChecks g ++ listChecks g) (splitChecks g room) (sym (open-rows-split g room) ∙ pass) in
+    let h = list-pass g (parts .0) in
+    let s = h .polynomial in
     let c₉ = pass-check (check 9 (isNone (powersOf g)) 0) _ (parts .1) in
     let (l, e) = some-of (powersOf g) (c₉ .0) in (
       record {

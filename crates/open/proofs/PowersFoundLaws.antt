@@ -1,6 +1,6 @@
 -- The powers that repeated division finds are those of `powersOf`.
 --   gives-splits, splits-gives   powers of the roots give column 0 of the polynomial over F_p exactly where they give it by number
---   found-answer                 so what `find_powers` answers is what row 9 asks
+--   found-answer                 so what `find_powers` answers is what refusal 9 asks
 --   first-long, .., powers-answer   column 0, loaded at the front of an array, and what is found from it
 -- Assumes nothing.
 use Prim.Native.Nat.{ℕ, zero, _+_, _-_, _*_, _≤_, _<_, Fin}
@@ -21,13 +21,14 @@ use Rattle.algebra.specs.Fp.{Prime, Fp, p-pos, rem}
 use Rattle.algebra.specs.Bridge.{same-rem, rem-zero}
 use Rattle.numbers.specs.Words.{word, tabulate, AllBelow}
 use Rattle.numbers.proofs.WordsLaws.{length-tabulate, word-tabulate}
+use Rattle.numbers.specs.Limits.{mostRows}
 use Rattle.rows.proofs.RowsLaws.{row-fits}
 use Rattle.sheet.specs.Sheet.{Given, given-polynomial}
 use Rattle.open.specs.Opening.{PowersAnswer}
-use Rattle.open.specs.Powers.{overField, GivesPowers, FoundPowers}
-use Rattle.split.proofs.FactorsLaws.{product-lt, rootsOf}
+use Rattle.powers.specs.Powers.{overField, GivesPowers, FoundPowers}
+use Rattle.hensel.proofs.FactorsLaws.{product-lt, rootsOf}
 use Rattle.sheet.proofs.ExistsLaws.{split-rem}
-use Rattle.open.proofs.OpenChecksLaws.{Listed}
+use Rattle.open.proofs.OpenChecksLaws.{ListPass}
 use Rattle.open.proofs.OpenLaws.{Rising, Reduced, GivenSplits, powers-are, powers-none}
 
 module _ (g : Given) (prime : Prime (g .p)) (up : Rising g) (low : Reduced g) (e : List ℕ) (long : length e ≡ g .D + 1)
@@ -73,7 +74,7 @@ module _ (g : Given) (prime : Prime (g .p)) (up : Rising g) (low : Reduced g) (e
   }
 
 -- column 0 of the rows, at the front of an array
-module _ (g : Given) (h : Listed g) (zs₀ zs : List ℕ) (size : g .D + 1 ≤ length zs₀) (L : List ℕ)
+module _ (g : Given) (h : ListPass g) (zs₀ zs : List ℕ) (size : g .D + 1 ≤ length zs₀) (L : List ℕ)
     (loaded : L ≡ tabulate (length (take (g .D + 1) zs₀)) (λ j. word (g .rows) (j * g .N + 0))) where
   abbrev E : List ℕ
   E = take (g .D + 1) (L ++ zs)
@@ -93,8 +94,8 @@ module _ (g : Given) (h : Listed g) (zs₀ zs : List ℕ) (size : g .D + 1 ≤ l
   pub first-some : 1 ≤ length E
   first-some = omega (arith, first-long)
 
-  pub first-small : length E ≤ 33
-  first-small = let d = h .shape .degree-high in omega (arith, first-long)
+  pub first-small : length E ≤ mostRows
+  first-small = let d = h .polynomial .degree-high in omega (arith, first-long)
 
   pub first-fits : g .D + 1 ≤ length (L ++ zs)
   first-fits = omega (arith, length-append L zs, L-long)
@@ -107,17 +108,17 @@ module _ (g : Given) (h : Listed g) (zs₀ zs : List ℕ) (size : g .D + 1 ≤ l
   pub first-below : AllBelow (g .p) E
   first-below j l =
       let n = first-long in
-      let w = h .shape .width-low in
-      let s = h .shape .long in
-      rw (first-column j (omega arith)) (h .shape .rows-below (0 + j * g .N + 0) (omega (arith, row-fits j (g .D + 1) (g .N) (omega arith))))
+      let w = h .polynomial .width-low in
+      let s = h .polynomial .long in
+      rw (first-column j (omega arith)) (h .polynomial .rows-below (0 + j * g .N + 0) (omega (arith, row-fits j (g .D + 1) (g .N) (omega arith))))
 
   pub first-top : word E (length E - 1) ≡ 1
   first-top =
       let n = first-long in
-      ap (word E) (let z : length E - 1 ≡ g .D = omega arith in z) ∙ first-column (g .D) (omega arith) ∙ h .top zero (h .shape .width-low)
+      ap (word E) (let z : length E - 1 ≡ g .D = omega arith in z) ∙ first-column (g .D) (omega arith) ∙ h .top zero (h .polynomial .width-low)
 
   pub powers-answer : (found : Bool) (ps : List ℕ) → length ps ≡ length (g .roots) → FoundPowers (g .p) (g .roots) E found ps → PowersAnswer g found ps
-  powers-answer = found-answer g (h .shape .modulus .prime) (h .up) (h .shape .roots-below) E first-long first-column (λ j l. first-below j (let n = first-long in omega arith))
+  powers-answer = found-answer g (h .polynomial .modulus .prime) (h .up) (h .polynomial .roots-below) E first-long first-column (λ j l. first-below j (let n = first-long in omega arith))
 
-pub load-fits : (g : Given) → Listed g → (k : ℕ) → k ≡ g .D + 1 → k * g .N ≤ length (g .rows)
-load-fits g h k e = let s = h .shape .long in let z : k * g .N ≡ (g .D + 1) * g .N = ap (λ x. x * g .N) e in omega arith
+pub load-fits : (g : Given) → ListPass g → (k : ℕ) → k ≡ g .D + 1 → k * g .N ≤ length (g .rows)
+load-fits g h k e = let s = h .polynomial .long in let z : k * g .N ≡ (g .D + 1) * g .N = ap (λ x. x * g .N) e in omega arith

@@ -16,13 +16,15 @@ use lib.Seq.{length-take-le}
 use Rattle.algebra.specs.Sums.{sumTo, sumTo-suc}
 use Rattle.numbers.specs.Words.{word, over}
 use Rattle.numbers.proofs.WordsLaws.{Writing, writing-part, length-over, over-whole}
+use Rattle.numbers.specs.Limits.{largestDegree}
 use Rattle.rows.specs.Rows.{rowsOf, table}
 use Rattle.rows.proofs.RowsLaws.{rows-below, length-table, table-ext, table-rows}
-use Rattle.sheet.specs.Layout.{polynomialFrom, factorsFrom}
+use Rattle.layout.specs.Layout.{rootsFrom, polynomialFrom, factorsFrom, headerOf, rootTable}
+use Rattle.layout.proofs.PlacesLaws.{count-sum}
 use Rattle.sheet.specs.Sheet.{Given, given-polynomial}
 use Rattle.sheet.proofs.ContentLaws.{size, entry, sheetWords}
 use Rattle.open.specs.Open.{powersOf, needed}
-use Rattle.open.specs.Writing.{degreeOf, headerOf, rootTable, factorTable, freshContent, freshWords, FreshReady}
+use Rattle.open.specs.Writing.{degreeOf, factorTable, freshContent, freshWords, FreshReady}
 use Rattle.open.proofs.OpeningLaws.{orNil, GivenReady, openWords}
 
 -- with the powers found
@@ -37,23 +39,19 @@ pub needed-fresh : (g : Given) (l : List ℕ) → needed g ≡ size (freshConten
 unfolding needed
 needed-fresh g l = refl
 
-ones-le : (r : ℕ) (m : ℕ → ℕ) → ((i : ℕ) → i < r → 1 ≤ m i) → r ≤ sumTo r m
-ones-le zero m h = omega arith
-ones-le (suc r) m h = omega (arith, ones-le r m (λ i l. h i (omega arith)), h r (omega arith), sumTo-suc r m)
-
-pub count-small : (g : Given) (powers : List ℕ) → FreshReady g powers → length (g .roots) ≤ 32
+pub count-small : (g : Given) (powers : List ℕ) → FreshReady g powers → length (g .roots) ≤ largestDegree
 count-small g powers h =
     let a = h .splits .degree in
     let b = h .degree-high in
-    omega (arith, ones-le (length (g .roots)) (word powers) (h .splits .powers))
+    omega (arith, count-sum (length (g .roots)) (word powers) (h .splits .powers))
 
 -- `&mut s[a..b]`
 lent : (s : List ℕ) (a b : ℕ) → a ≤ b → b ≤ length s → length (take (b - a) (drop a s)) ≡ b - a
 lent s a b l g = length-take-le (b - a) (drop a s) (omega (arith, length-drop a s))
 
 -- three of its four parts; the rows given are the other one
-abbrev freshHeader : Given → ℕ → List ℕ
-freshHeader g T = headerOf (g .p) (g .D) (g .N) (length (g .roots)) T
+abbrev freshHeader : Given → List ℕ
+freshHeader g = headerOf (g .p) (g .D) (g .N) 1 (length (g .roots))
 
 abbrev freshRoots : Given → List ℕ → List ℕ
 freshRoots g powers = table (length (g .roots)) 2 (rootTable (g .roots) powers)
@@ -75,7 +73,7 @@ module _ {g : Given} {powers old : List ℕ} {T a b : ℕ} (h : Begun g powers o
   degree-is : degreeOf powers ≡ g .D
   degree-is = ap (λ n. sumTo n (word powers)) (h .same) ∙ h .ready .splits .degree
 
-  pub degree-small : degreeOf powers ≤ 32
+  pub degree-small : degreeOf powers ≤ largestDegree
   degree-small = let d = h .ready .degree-high in omega (arith, degree-is)
 
   entries-same : (i t : ℕ) → entry (freshContent g powers) i t ≡ rootTable (g .roots) powers i t
@@ -88,13 +86,12 @@ module _ {g : Given} {powers old : List ℕ} {T a b : ℕ} (h : Begun g powers o
       ap (word (g .rows)) (let z : 0 + j * g .N + t ≡ j * g .N + t = omega arith in z) ∙ sym (rows-below (g .rows) (g .N) (g .D + 1) j t l))
       ∙ table-rows (g .rows) (g .D + 1) (g .N) (h .long-rows)
 
-  fresh-is : freshWords g powers ≡ freshHeader g T ++ (freshRoots g powers ++ (g .rows ++ freshFactors g powers))
+  fresh-is : freshWords g powers ≡ freshHeader g ++ (freshRoots g powers ++ (g .rows ++ freshFactors g powers))
   unfolding freshWords sheetWords
   fresh-is =
-      ap₂ (λ (x y : List ℕ). freshHeader g (size (freshContent g powers)) ++ (x ++ y))
+      ap₂ (λ (x y : List ℕ). freshHeader g ++ (x ++ y))
       (table-ext (length (g .roots)) 2 (entry (freshContent g powers)) (rootTable (g .roots) powers) (λ i t _ _. entries-same i t))
       (ap₂ _++_ rows-same (ap (λ D. table D (g .N) (factorTable (g .p) (g .roots) powers)) (sym degree-is)))
-      ∙ ap (λ n. freshHeader g n ++ (freshRoots g powers ++ (g .rows ++ freshFactors g powers))) (sym (h .total))
 
   -- the factors' rows end the sheet
   sheet-end : T ≡ b + g .D * g .N
@@ -110,38 +107,38 @@ module _ {g : Given} {powers old : List ℕ} {T a b : ℕ} (h : Begun g powers o
       length-table (degreeOf powers) (g .N) (factorTable (g .p) (g .roots) powers) ∙ (let w : degreeOf powers * g .N ≡ T - b = omega arith in w)
 
   -- where the parts begin
-  starts : (a ≡ 10 + length (g .roots) * 2) × (b ≡ a + length (g .rows)) × (b ≤ T) × (T ≤ length old)
+  starts : (a ≡ rootsFrom + length (g .roots) * 2) × (b ≡ a + length (g .rows)) × (b ≤ T) × (T ≤ length old)
   starts =
       let x = sheet-end in let p = h .polynomial in let e = h .factors in let l = h .long-rows in
       (omega arith, omega arith, omega arith, h .fits)
 
-  front₂ : length (freshHeader g T ++ freshRoots g powers) ≡ a
+  front₂ : length (freshHeader g ++ freshRoots g powers) ≡ a
   front₂ =
       let s = starts in let y = length-table (length (g .roots)) 2 (rootTable (g .roots) powers) in
-      length-append (freshHeader g T) (freshRoots g powers) ∙ (let w : 10 + length (freshRoots g powers) ≡ a = omega arith in w)
+      length-append (freshHeader g) (freshRoots g powers) ∙ (let w : rootsFrom + length (freshRoots g powers) ≡ a = omega arith in w)
 
-  front₃ : length ((freshHeader g T ++ freshRoots g powers) ++ g .rows) ≡ b
+  front₃ : length ((freshHeader g ++ freshRoots g powers) ++ g .rows) ≡ b
   front₃ =
       let s = starts in let x = front₂ in
-      length-append (freshHeader g T ++ freshRoots g powers) (g .rows) ∙ (let w : length (freshHeader g T ++ freshRoots g powers) + length (g .rows) ≡ b = omega arith in w)
+      length-append (freshHeader g ++ freshRoots g powers) (g .rows) ∙ (let w : length (freshHeader g ++ freshRoots g powers) + length (g .rows) ≡ b = omega arith in w)
 
-  module _ (e₁ : List ℕ) (q₁ : e₁ ≡ over (freshHeader g T) old) where
-    written₁ : Writing (freshHeader g T) old e₁
-    written₁ = let s = starts in record { is = q₁; long = ap length q₁ ∙ length-over (freshHeader g T) old (omega arith) }
+  module _ (e₁ : List ℕ) (q₁ : e₁ ≡ over (freshHeader g) old) where
+    written₁ : Writing (freshHeader g) old e₁
+    written₁ = let s = starts in record { is = q₁; long = ap length q₁ ∙ length-over (freshHeader g) old (omega arith) }
 
-    pub roots-part : length (take (a - 10) (drop 10 e₁)) ≡ length (g .roots) * 2
-    roots-part = let s = starts in let z = written₁ .long in lent e₁ 10 a (omega arith) (omega arith) ∙ (let w : a - 10 ≡ length (g .roots) * 2 = omega arith in w)
+    pub roots-part : length (take (a - rootsFrom) (drop rootsFrom e₁)) ≡ length (g .roots) * 2
+    roots-part = let s = starts in let z = written₁ .long in lent e₁ rootsFrom a (omega arith) (omega arith) ∙ (let w : a - rootsFrom ≡ length (g .roots) * 2 = omega arith in w)
 
     module _ (y₂ : List ℕ) (q₂ : y₂ ≡ freshRoots g powers) where
       abbrev e₂ : List ℕ
-      e₂ = take 10 e₁ ++ (y₂ ++ drop (a - 10) (drop 10 e₁))
+      e₂ = take rootsFrom e₁ ++ (y₂ ++ drop (a - rootsFrom) (drop rootsFrom e₁))
 
-      written₂ : Writing (freshHeader g T ++ freshRoots g powers) old e₂
+      written₂ : Writing (freshHeader g ++ freshRoots g powers) old e₂
       written₂ =
           let s = starts in
-          subst (λ (l : List ℕ). Writing (freshHeader g T ++ freshRoots g powers) old (take 10 e₁ ++ (l ++ drop (a - 10) (drop 10 e₁)))) (sym q₂)
-          (writing-part (freshHeader g T) (freshRoots g powers) old e₁ 10 (a - 10) written₁ refl
-          (length-table (length (g .roots)) 2 (rootTable (g .roots) powers) ∙ (let w : length (g .roots) * 2 ≡ a - 10 = omega arith in w)) (omega arith))
+          subst (λ (l : List ℕ). Writing (freshHeader g ++ freshRoots g powers) old (take rootsFrom e₁ ++ (l ++ drop (a - rootsFrom) (drop rootsFrom e₁)))) (sym q₂)
+          (writing-part (freshHeader g) (freshRoots g powers) old e₁ rootsFrom (a - rootsFrom) written₁ refl
+          (length-table (length (g .roots)) 2 (rootTable (g .roots) powers) ∙ (let w : length (g .roots) * 2 ≡ a - rootsFrom = omega arith in w)) (omega arith))
 
       rows-part : length (take (b - a) (drop a e₂)) ≡ length (g .rows)
       rows-part = let s = starts in let z = written₂ .long in lent e₂ a b (omega arith) (omega arith) ∙ (let w : b - a ≡ length (g .rows) = omega arith in w)
@@ -150,12 +147,12 @@ module _ {g : Given} {powers old : List ℕ} {T a b : ℕ} (h : Begun g powers o
         abbrev e₃ : List ℕ
         e₃ = take a e₂ ++ (y₃ ++ drop (b - a) (drop a e₂))
 
-        written₃ : Writing ((freshHeader g T ++ freshRoots g powers) ++ g .rows) old e₃
+        written₃ : Writing ((freshHeader g ++ freshRoots g powers) ++ g .rows) old e₃
         written₃ =
             let s = starts in
-            subst (λ (l : List ℕ). Writing ((freshHeader g T ++ freshRoots g powers) ++ g .rows) old (take a e₂ ++ (l ++ drop (b - a) (drop a e₂))))
+            subst (λ (l : List ℕ). Writing ((freshHeader g ++ freshRoots g powers) ++ g .rows) old (take a e₂ ++ (l ++ drop (b - a) (drop a e₂))))
             (sym (q₃ ∙ over-whole (g .rows) (take (b - a) (drop a e₂)) (sym rows-part)))
-            (writing-part (freshHeader g T ++ freshRoots g powers) (g .rows) old e₂ a (b - a) written₂ front₂ (let w : length (g .rows) ≡ b - a = omega arith in w) (omega arith))
+            (writing-part (freshHeader g ++ freshRoots g powers) (g .rows) old e₂ a (b - a) written₂ front₂ (let w : length (g .rows) ≡ b - a = omega arith in w) (omega arith))
 
         pub factors-part : length (take (T - b) (drop b e₃)) ≡ degreeOf powers * g .N
         factors-part =
@@ -166,6 +163,6 @@ module _ {g : Given} {powers old : List ℕ} {T a b : ℕ} (h : Begun g powers o
         sheet-written y₄ q₄ =
             let s = starts in
             ap (λ (l : List ℕ). take b e₃ ++ (l ++ drop (T - b) (drop b e₃))) q₄
-            ∙ writing-part ((freshHeader g T ++ freshRoots g powers) ++ g .rows) (freshFactors g powers) old e₃ b (T - b) written₃ front₃ factors-long (omega arith) .is
-            ∙ ap (λ (l : List ℕ). over l old) (append-assoc (freshHeader g T ++ freshRoots g powers) (g .rows) (freshFactors g powers)
-            ∙ append-assoc (freshHeader g T) (freshRoots g powers) (g .rows ++ freshFactors g powers) ∙ sym fresh-is)
+            ∙ writing-part ((freshHeader g ++ freshRoots g powers) ++ g .rows) (freshFactors g powers) old e₃ b (T - b) written₃ front₃ factors-long (omega arith) .is
+            ∙ ap (λ (l : List ℕ). over l old) (append-assoc (freshHeader g ++ freshRoots g powers) (g .rows) (freshFactors g powers)
+            ∙ append-assoc (freshHeader g) (freshRoots g powers) (g .rows ++ freshFactors g powers) ∙ sym fresh-is)

@@ -1,7 +1,5 @@
 -- Tables, part after part, as the functions that write a fresh sheet leave them.
 --   flat-row                      a row of a polynomial in Y alone
---   header-words                  the header
---   pair-more                     a root and its power more
 --   line-long, line-lower, line-rows   the words of an array that has (Y − c)^m at its front, and their rows
 --   factors-none, factors-more, factors-all   the factors, one after the other
 -- Assumes nothing.
@@ -9,21 +7,21 @@ use Prim.Native.Nat.{ℕ, zero, suc, _+_, _-_, _*_, _≤_, _<_}
 use native.Mathlib.Nat.{add-zero, add-suc, add-mul, zero-mul, mul-le-mul, le-refl}
 use native.Mathlib.Numerals.{add-one}
 use native.Mathlib.Omega.{arith}
-use mathlib.Core.Path.{_≡_, refl, sym, _∙_, ap, subst}
-use mathlib.Core.List.{List, [], _∷_, _++_, append-assoc, append-nil}
-use lib.ListN.{length, take, drop, set, length-append, length-drop}
+use mathlib.Core.Path.{_≡_, refl, sym, _∙_, ap}
+use mathlib.Core.List.{List, _++_, append-assoc, append-nil}
+use lib.ListN.{length, take, drop, length-append, length-drop}
 use lib.Seq.{ext-getD, getD-take, take-at, length-take-le}
 use Rattle.algebra.specs.Sums.{sumTo, sumTo-zero, sumTo-suc, sumTo-mono}
 use Rattle.numbers.specs.Words.{word, tabulate, over}
-use Rattle.numbers.proofs.WordsLaws.{length-tabulate, word-tabulate, tabulate-ext, Writing, writing-none, writing-store, writing-part, over-whole}
+use Rattle.numbers.proofs.WordsLaws.{length-tabulate, word-tabulate, tabulate-ext, Writing, writing-none, writing-part, over-whole}
+use Rattle.numbers.specs.Limits.{largestDegree, mostRows}
 use Rattle.rows.specs.Rows.{table}
-use Rattle.rows.proofs.RowsLaws.{zeros, table-none, table-suc, length-table, table-ext}
+use Rattle.rows.proofs.RowsLaws.{zeros, table-none, length-table, table-ext}
 use Rattle.columns.specs.Column.{firstOnly}
-use Rattle.split.specs.Factors.{rootPower, flat}
-use Rattle.sheet.specs.Layout.{polynomialFrom, factorsFrom}
+use Rattle.hensel.specs.Factors.{rootPower, flat}
 use Rattle.sheet.proofs.BuildLaws.{start, stacked, stacked-is, cut, cut-low, cut-high}
-use Rattle.open.specs.Writing.{degreeOf, headerOf, rootTable, factorTable}
-use Rattle.open.proofs.LineLaws.{front-words}
+use Rattle.open.specs.Writing.{degreeOf, factorTable}
+use Rattle.powers.proofs.LineLaws.{front-words}
 
 table-append : (a b N : ℕ) (f : ℕ → ℕ → ℕ) → table (a + b) N f ≡ table a N f ++ table b N (λ j. f (a + j))
 unfolding table
@@ -48,33 +46,16 @@ flat-cut : (b : ℕ → ℕ → ℕ) (a : ℕ → ℕ) (j q t : ℕ) → a j ≡
 flat-cut b a j q zero e = e ∙ sym (cut-low 1 b q 0 (omega arith))
 flat-cut b a j q (suc t) e = sym (cut-high 1 b q (suc t) (omega arith))
 
--- the header
-pub header-words : (p D N r T x y : ℕ) (old : List ℕ) → x ≡ polynomialFrom r → y ≡ factorsFrom D N r
-    → over (p ∷ D ∷ N ∷ 1 ∷ r ∷ 10 ∷ x ∷ y ∷ T ∷ T ∷ []) old ≡ over (headerOf p D N r T) old
-header-words p D N r T x y old a b = rw (a, b)
-
--- a root and its power
-pub pair-more : (roots powers old out : List ℕ) (i : ℕ) → Writing (table i 2 (rootTable roots powers)) old out → 2 * i + 2 ≤ length old
-    → Writing (table (i + 1) 2 (rootTable roots powers)) old (set (set out (2 * i) (word roots i)) (2 * i + 1) (word powers i))
-unfolding tabulate
-pair-more roots powers old out i w h =
-    let T = table i 2 (rootTable roots powers) in
-    let l : length T ≡ 2 * i = omega (arith, length-table i 2 (rootTable roots powers)) in
-    let one = writing-store T old out (2 * i) (word roots i) w l (omega arith) in
-    let two = writing-store (T ++ (word roots i ∷ [])) old (set out (2 * i) (word roots i)) (2 * i + 1) (word powers i) one (length-append T (word roots i ∷ []) ∙ (let z : length T + 1 ≡ 2 * i + 1 = omega arith in z)) (omega arith) in
-    subst (λ (xs : List ℕ). Writing xs old (set (set out (2 * i) (word roots i)) (2 * i + 1) (word powers i)))
-    (append-assoc T (word roots i ∷ []) (word powers i ∷ []) ∙ sym (table-suc i 2 (rootTable roots powers))) two
-
 -- the array that has (Y − c)^m at its front
-module _ (p x m : ℕ) (ws : List ℕ) (small : m ≤ 32) (e : ws ≡ tabulate (length (take (m + 1) zeros)) (rootPower p x (length (take (m + 1) zeros) - 1))) where
+module _ (p x m : ℕ) (ws : List ℕ) (small : m ≤ largestDegree) (e : ws ≡ tabulate (length (take (m + 1) zeros)) (rootPower p x (length (take (m + 1) zeros) - 1))) where
   words-long : length ws ≡ m + 1
   words-long = ap length (front-words m small p x ws e) ∙ length-tabulate (m + 1) (rootPower p x m)
 
-  pub line-long : length (ws ++ drop (m + 1) zeros) ≡ 33
+  pub line-long : length (ws ++ drop (m + 1) zeros) ≡ mostRows
   line-long =
       let a = length-drop (m + 1) zeros in
       let b = words-long in
-      length-append ws (drop (m + 1) zeros) ∙ (let z : length ws + length (drop (m + 1) zeros) ≡ 33 = omega arith in z)
+      length-append ws (drop (m + 1) zeros) ∙ (let z : length ws + length (drop (m + 1) zeros) ≡ mostRows = omega arith in z)
 
   line-is : take (m + 1) (ws ++ drop (m + 1) zeros) ≡ tabulate (m + 1) (rootPower p x m)
   line-is = take-at ws (drop (m + 1) zeros) (m + 1) words-long ∙ front-words m small p x ws e

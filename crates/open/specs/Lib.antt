@@ -1,4 +1,3 @@
 pub mod Open
 pub mod Opening
-pub mod Powers
 pub mod Writing

@@ -1,7 +1,8 @@
 -- What open answers and leaves.
 --   powersOf g         powers, all 1 or more, of the listed roots that give f at X = 0, where there are any
 --   needed g           T
---   openChecks         the checks
+--   polynomialChecks, listChecks, splitChecks, openChecks   the checks: refusals 1 to 6, 7 and 8, 9 and 10, and all of them
+--   isUnit s, rising s the words of s are 1, 0, 0, ..; they rise
 --   Opened             open's answer and the words at exit
 -- Assumes nothing.
 use Prim.Native.Nat.{ℕ, zero, suc, _+_, _-_, _*_}
@@ -12,11 +13,12 @@ use mathlib.Core.List.{List, [], _∷_, _++_, map}
 use lib.Dec.{ltb, eqb}
 use lib.ListN.{length, drop}
 use Rattle.numbers.specs.Words.{word, allTo, firstLarge, outside, lowWord}
-use Rattle.numbers.specs.Refusals.{Check, check, judge, Outcome, result, modulusChecks, unreduced, Leaves}
+use Rattle.numbers.specs.Refusals.{Check, check, judge, Outcome, result, modulusChecks, unreduced, widthCheck, roomCheck, Leaves}
 use Rattle.numbers.specs.declared.refusal.Verdict.{Verdict}
+use Rattle.numbers.specs.Limits.{largestDegree}
 use Rattle.rows.specs.Rows.{unit}
-use Rattle.split.specs.Factors.{split}
-use Rattle.sheet.specs.Layout.{total, end}
+use Rattle.hensel.specs.Factors.{split}
+use Rattle.layout.specs.Layout.{total, end}
 use Rattle.sheet.specs.Sheet.{Given, given-polynomial, Holds}
 
 -- the lists of r numbers, each 1 or more, whose sum is D
@@ -48,20 +50,42 @@ isNone (some a) = false
 unfoldable pub needed : Given → ℕ
 needed g = total (g .D) (g .N) (length (g .roots))
 
--- `room` is the length of the output
-abbrev pub openChecks : Given → ℕ → List Check
-openChecks g room =
-    modulusChecks (g .p) ++ (
-    check 3 (outside 1 32 (g .D)) 0
-    ∷ check 4 (outside 1 256 (g .N)) 0
+-- the words are 1, 0, 0, ..; they rise
+abbrev pub isUnit : List ℕ → Bool
+isUnit s = allTo (length s) (λ t. eqb (word s t) (unit t))
+
+abbrev pub rising : List ℕ → Bool
+rising s = allTo (length s - 1) (λ i. ltb (word s i) (word s (suc i)))
+
+-- refusals 3 to 6
+abbrev pub sizeChecks : Given → List Check
+sizeChecks g =
+    check 3 (outside 1 largestDegree (g .D)) 0
+    ∷ widthCheck (g .N)
     ∷ check 5 (not (eqb (length (g .rows)) ((g .D + 1) * g .N))) 0
     ∷ check 6 (unreduced (g .p) (g .rows ++ g .roots)) (lowWord (firstLarge (g .p) (g .rows ++ g .roots)))
-    ∷ check 7 (not (allTo (g .N) (λ t. eqb (given-polynomial g (g .D) t) (unit t)))) 0
-    ∷ check 8 (outside 1 (g .D) (length (g .roots)) || not (allTo (length (g .roots) - 1) (λ i. ltb (word (g .roots) i) (word (g .roots) (suc i))))) 0
-    ∷ check 9 (isNone (powersOf g)) 0
-    ∷ check 10 (ltb room (needed g)) (needed g)
     ∷ []
-    )
+
+-- refusals 1 to 6: the words of the polynomial and the roots
+abbrev pub polynomialChecks : Given → List Check
+polynomialChecks g = modulusChecks (g .p) ++ sizeChecks g
+
+-- refusals 7 and 8: the top row, and the list of roots
+abbrev pub listChecks : Given → List Check
+listChecks g =
+    check 7 (not (allTo (g .N) (λ t. eqb (given-polynomial g (g .D) t) (unit t)))) 0
+    ∷ check 8 (outside 1 (g .D) (length (g .roots)) || not (rising (g .roots))) 0
+    ∷ []
+
+-- refusals 9 and 10; `room` is the length of the output
+abbrev pub splitChecks : Given → ℕ → List Check
+splitChecks g room =
+    check 9 (isNone (powersOf g)) 0
+    ∷ roomCheck room (needed g)
+    ∷ []
+
+abbrev pub openChecks : Given → ℕ → List Check
+openChecks g room = polynomialChecks g ++ (listChecks g ++ splitChecks g room)
 
 unfoldable pub openVerdict : Given → ℕ → Verdict
 openVerdict g room = judge (openChecks g room)

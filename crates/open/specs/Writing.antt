@@ -1,30 +1,20 @@
 -- The words of a fresh sheet, with one term, from what open is given and the powers found.
 --   degreeOf powers              D, the sum of the powers
---   headerOf, rootTable          the header's words, and the roots with their powers
 --   factorTable ..               the factors' rows, 0 from column 1 on: at X = 0 factor i is (Y − c_i)^(m_i)
 --   freshContent, freshWords     what the sheet holds, and its words
 --   FreshReady                   what writing them needs
 -- Assumes nothing.
-use Prim.Native.Nat.{ℕ, zero, suc}
-use mathlib.Core.List.{List, [], _∷_}
+use Prim.Native.Nat.{ℕ}
+use mathlib.Core.List.{List}
 use lib.ListN.{length}
 use Rattle.algebra.specs.Sums.{sumTo}
 use Rattle.numbers.specs.Words.{word}
-use Rattle.sheet.specs.Layout.{rootsFrom, polynomialFrom, factorsFrom}
 use Rattle.sheet.specs.Sheet.{Given, given-polynomial}
 use Rattle.sheet.proofs.ContentLaws.{Content, sheetWords}
 use Rattle.sheet.proofs.BuildLaws.{built, start, stacked, cut, Ready}
 
 abbrev pub degreeOf : List ℕ → ℕ
 degreeOf powers = sumTo (length powers) (word powers)
-
-abbrev pub headerOf : (p D N r T : ℕ) → List ℕ
-headerOf p D N r T = p ∷ D ∷ N ∷ 1 ∷ r ∷ rootsFrom ∷ polynomialFrom r ∷ factorsFrom D N r ∷ T ∷ T ∷ []
-
--- root, then power
-abbrev pub rootTable : (roots powers : List ℕ) → ℕ → ℕ → ℕ
-rootTable roots powers i zero = word roots i
-rootTable roots powers i (suc t) = word powers i
 
 abbrev pub factorTable : (p : ℕ) (roots powers : List ℕ) → ℕ → ℕ → ℕ
 factorTable p roots powers = cut 1 (stacked (length roots) (word powers) (start p (word roots) (word powers)))

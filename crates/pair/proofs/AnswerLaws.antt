@@ -7,16 +7,15 @@
 use Prim.Native.Nat.{ℕ, zero, _+_, _*_, _≤_, _<_}
 use native.Mathlib.Omega.{arith}
 use mathlib.Core.Path.{_≡_, sym, ap, _∙_}
-use mathlib.Core.Bool.{not, _||_}
+use mathlib.Core.Bool.{not}
 use mathlib.Core.List.{List, [], _∷_}
 use borrow.Author.Tests.{ltb-false, not-false}
-use lib.Dec.{ltb}
 use mathlib.Core.Logic.{_⊎_, ⊎-elim}
 use lib.ListN.{length, take, drop, List·getD-append}
 use lib.Seq.{drop-at}
 use Rattle.algebra.specs.Fp.{Prime}
 use Rattle.numbers.specs.Words.{word, over, outside}
-use Rattle.numbers.specs.Refusals.{check, judge}
+use Rattle.numbers.specs.Refusals.{judge, beyondCheck, behindCheck}
 use Rattle.numbers.specs.declared.refusal.Verdict.the-variants.{Pass}
 use Rattle.numbers.proofs.WordsLaws.{length-over}
 use Rattle.numbers.proofs.RefusalsLaws.{pass-parts, pass-check, neither, inside}
@@ -24,20 +23,20 @@ use Rattle.rows.specs.Rows.{table}
 use Rattle.rows.proofs.RowsLaws.{length-table, word-table, row-fits}
 use Rattle.pair.specs.Pair.{order, firstChecks, pairChecks, continueChecks, pairTest, PairWords, PairDone}
 use Rattle.pair.specs.Lifting.{startRows, Lifting}
-use Rattle.pair.proofs.TestLaws.{First, first-pass}
+use Rattle.pair.proofs.TestLaws.{pairRow, FirstPass, first-pass}
 use Rattle.pair.proofs.LiftLaws.{start-words}
 use Rattle.pair.proofs.PairWordsLaws.{test-pair, words-unique, words-agree}
 
-pub lifting-of : (p D N : ℕ) (f : List ℕ) (room d t : ℕ) (s : List ℕ) → First p D N f room → d ≡ order D N f → room ≤ length s → PairWords p D N f t s → Lifting p D N f d t s
-lifting-of p D N f room d t s first e fits words =
+pub lifting-of : {p D N : ℕ} {f : List ℕ} {room d t : ℕ} {s : List ℕ} → FirstPass p D N f room → d ≡ order D N f → room ≤ length s → PairWords p D N f t s → Lifting p D N f d t s
+lifting-of first e fits words =
     let o = first .operation in
     let b = first .bound in
     record {
       prime = o .inputs .modulus .prime;
       small = o .inputs .modulus .small;
       degree-high = let h = o .inputs .high in omega arith;
-      terms-low = o .inputs .terms-low;
-      terms-high = o .inputs .terms-high;
+      width-low = o .inputs .width-low;
+      width-high = o .inputs .width-high;
       f-long = o .inputs .f-long;
       f-below = o .inputs .f-below;
       ordered = e;
@@ -46,11 +45,11 @@ lifting-of p D N f room d t s first e fits words =
       words = words;
     }
 
-pub start-done : (p D N : ℕ) (f : List ℕ) (s₀ s : List ℕ) → First p D N f (length s₀) → s ≡ over (table (D + 1) N (startRows f N)) s₀ → PairDone p D N f 1 s₀ s
+pub start-done : (p D N : ℕ) (f : List ℕ) (s₀ s : List ℕ) → FirstPass p D N f (length s₀) → s ≡ over (table (D + 1) N (startRows f N)) s₀ → PairDone p D N f 1 s₀ s
 start-done p D N f s₀ s first e =
     let o = first .operation in
     let r = o .roomy in
-    let one = o .inputs .terms-low in
+    let one = o .inputs .width-low in
     let xs = table (D + 1) N (startRows f N) in
     let l : length xs ≡ (D + 1) * N = length-table (D + 1) N (startRows f N) in
     record {
@@ -63,14 +62,14 @@ start-done p D N f s₀ s first e =
     }
 
 pub record PairInput (p D N : ℕ) (f : List ℕ) (w room : ℕ) : Type 0 where
-  pub first : First p D N f room
+  pub first : FirstPass p D N f room
   pub low : 1 ≤ w
   pub high : w ≤ N
 
 pub pair-pass : (p D N : ℕ) (f : List ℕ) (w room : ℕ) → judge (pairChecks p D N f w room) ≡ Pass → PairInput p D N f w room
 pair-pass p D N f w room e =
-    let m = pass-parts (firstChecks p D N f room) (check 14 (outside 1 N w) 0 ∷ []) e in
-    let b = inside 1 N w (pass-check (check 14 (outside 1 N w) 0) [] (m .1) .0) in
+    let m = pass-parts (firstChecks p D N f room) (beyondCheck N w ∷ []) e in
+    let b = inside 1 N w (pass-check (beyondCheck N w) [] (m .1) .0) in
     record { first = first-pass p D N f room (m .0); low = b .0; high = b .1 }
 
 pub record ContinueInput (p D N : ℕ) (f : List ℕ) (h w : ℕ) (s : List ℕ) : Type 0 where
@@ -81,9 +80,9 @@ pub record ContinueInput (p D N : ℕ) (f : List ℕ) (h w : ℕ) (s : List ℕ)
 
 pub continue-pass : (p D N : ℕ) (f : List ℕ) (h w : ℕ) (s : List ℕ) → judge (continueChecks p D N f h w s) ≡ Pass → ContinueInput p D N f h w s
 continue-pass p D N f h w s e =
-    let c₁₃ = check 13 (outside 1 N h || not (pairTest p D N f h s)) 0 in
-    let c₁₄ = check 14 (outside 1 N w) 0 in
-    let c₁₅ = check 15 (ltb w h) 0 in
+    let c₁₃ = pairRow p D N f h s in
+    let c₁₄ = beyondCheck N w in
+    let c₁₅ = behindCheck h w in
     let m = pass-parts (firstChecks p D N f (length s)) (c₁₃ ∷ c₁₄ ∷ c₁₅ ∷ []) e in
     let first = first-pass p D N f (length s) (m .0) in
     let a = pass-check c₁₃ (c₁₄ ∷ c₁₅ ∷ []) (m .1) in

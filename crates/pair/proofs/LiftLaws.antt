@@ -5,7 +5,7 @@
 --   done-step        .. and so step by step
 -- Assumes nothing.
 use Prim.Native.Nat.{ℕ, zero, suc, _+_, _-_, _*_, _%_, _≤_, _<_}
-use native.Mathlib.Nat.{eq-or-lt-of-le, mod-lt, add-mul, mul-le-mul, mul-comm, mod-eq-of-lt, add-zero, zero-mul}
+use native.Mathlib.Nat.{eq-or-lt-of-le, mod-lt, add-mul, mul-comm, mod-eq-of-lt, add-zero, zero-mul}
 use native.Mathlib.Omega.{arith}
 use mathlib.Core.Path.{_≡_, refl, sym, _∙_, ap, ap₂, subst, fun-ext}
 use mathlib.Core.Logic.{_≢_, _⊎_, ⊎-elim}
@@ -18,6 +18,9 @@ use Rattle.algebra.specs.Poly.{linPow}
 use Rattle.numbers.specs.Words.{word, tabulate, over, AllBelow}
 use Rattle.numbers.specs.Divisor.{inverseOf}
 use Rattle.numbers.proofs.WordsLaws.{lt-or-ge, length-tabulate, word-tabulate, length-over, from, length-from, word-from}
+use Rattle.numbers.specs.Limits.{mostRows}
+use Rattle.numbers.proofs.RefusalsLaws.{few-words}
+use Rattle.rows.proofs.ShiftLaws.{root-power}
 use Rattle.series.proofs.QuotientLaws.{inverse-law}
 use Rattle.rows.specs.Rows.{mul, linePower, unit, monic}
 use Rattle.rows.specs.Passes.{passSum}
@@ -29,8 +32,9 @@ use Rattle.pair.specs.Lifting.{startRows, Lifting}
 use Rattle.rows.proofs.MonicLaws.{monic-low, monic-top, monic-above, monic-later, monic-ext, by-place}
 use Rattle.pair.proofs.PairLaws.{first-high, first-low, monic-first}
 use Rattle.pair.proofs.PairWordsLaws.{order-there, order-least, low-word, high-word, high-past}
+use Rattle.pair.proofs.PartLaws.{split}
 use Rattle.columns.proofs.ColumnLaws.{length-digits, length-undigits, horner-word-suc, horner-below, length-horner, horner-words-at, horner-word-rest}
-use Rattle.columns.proofs.SolveLaws.{line-power, solve-solves, column-lifts, pass-ext}
+use Rattle.columns.proofs.SolveLaws.{solve-solves, column-lifts, pass-ext}
 
 -- column 0 of s is that of f: rows below d are 0 there, and A is f moved down by d rows
 module _ (p D N : ℕ) (f : List ℕ) (prime : Prime p) (below : AllBelow p f) (bound : order D N f ≤ D) where
@@ -124,7 +128,7 @@ module _ (p D N : ℕ) (f : List ℕ) (prime : Prime p) (below : AllBelow p f) (
     P-first : (j : ℕ) → P j 0 ≡ linePower p (p - 0) d j
     P-first j =
         same-rem p pos (P-lt j) (line-lt p (p - 0) d j (prime .two-le))
-        (ap (λ x. x j) (monic-first prime d (lowRows N d s′) low-first ∙ ap (λ x. linPow (Fp p pos) x d) (sym (rem-zero p pos)) ∙ sym (line-power p pos 0 pos d)))
+        (ap (λ x. x j) (monic-first prime d (lowRows N d s′) low-first ∙ ap (λ x. linPow (Fp p pos) x d) (sym (rem-zero p pos)) ∙ sym (root-power p pos 0 pos d)))
 
     A-first : _≡_ {A = ℕ → ℕ} (λ j. given D N f (d + j) 0) (λ j. A j 0)
     A-first = fun-ext (λ j. sym (old-high j 0 (omega arith) zero-ne ∙ first-column t s one h j))
@@ -197,19 +201,19 @@ module _ (p D N : ℕ) (f : List ℕ) (prime : Prime p) (below : AllBelow p f) (
     }
 
 -- one step after others
-pub done-none : (p D N : ℕ) (f : List ℕ) (t : ℕ) (s : List ℕ) → PairWords p D N f t s → PairDone p D N f t s s
-done-none p D N f t s h = record { long = refl; words = h; rest = refl }
+pub done-none : {p D N : ℕ} {f : List ℕ} {t : ℕ} {s : List ℕ} → PairWords p D N f t s → PairDone p D N f t s s
+done-none h = record { long = refl; words = h; rest = refl }
 
-pub done-step : (p D N : ℕ) (f : List ℕ) (t u : ℕ) (s s′ s″ : List ℕ) → PairDone p D N f t s s′ → PairDone p D N f u s′ s″ → PairDone p D N f u s s″
-done-step p D N f t u s s′ s″ h g = record { long = g .long ∙ h .long; words = g .words; rest = g .rest ∙ h .rest }
+pub done-step : {p D N : ℕ} {f : List ℕ} {t u : ℕ} {s s′ s″ : List ℕ} → PairDone p D N f t s s′ → PairDone p D N f u s′ s″ → PairDone p D N f u s s″
+done-step h g = record { long = g .long ∙ h .long; words = g .words; rest = g .rest ∙ h .rest }
 
-pub lifting-step : (p D N : ℕ) (f : List ℕ) (d t u : ℕ) (s s′ : List ℕ) → Lifting p D N f d t s → PairDone p D N f u s s′ → Lifting p D N f d u s′
-lifting-step p D N f d t u s s′ l h = record {
+pub lifting-step : {p D N : ℕ} {f : List ℕ} {d t u : ℕ} {s s′ : List ℕ} → Lifting p D N f d t s → PairDone p D N f u s s′ → Lifting p D N f d u s′
+lifting-step l h = record {
   prime = l .prime;
   small = l .small;
   degree-high = l .degree-high;
-  terms-low = l .terms-low;
-  terms-high = l .terms-high;
+  width-low = l .width-low;
+  width-high = l .width-high;
   f-long = l .f-long;
   f-below = l .f-below;
   ordered = l .ordered;
@@ -219,12 +223,12 @@ lifting-step p D N f d t u s s′ l h = record {
 }
 
 -- as the loop has it: d is a number that is the order
-pub lift-step : (p D N : ℕ) (f : List ℕ) (d t : ℕ) (inverse : ℕ) (a s s′ E R : List ℕ) → Lifting p D N f d t s → 1 ≤ t → t < N
+lift-step : {p D N : ℕ} {f : List ℕ} {d t : ℕ} {inverse : ℕ} {a s s′ E R : List ℕ} → Lifting p D N f d t s → 1 ≤ t → t < N
     → E ≡ tabulate (D + 1) (λ j. (given D N f j t + (p - middleSum (lowRows N d s) (highRows D N d s) j t % p)) % p)
     → Prepared p 0 (D + 1 - d) (λ j. given D N f (d + j) 0) inverse a
     → R ≡ over (undigits p 0 (take d (digits p 0 inverse a d E))) (digits p 0 inverse a d E)
     → ColumnStored N t R s s′ → PairDone p D N f (t + 1) s s′
-lift-step p D N f d t w a s s′ E R l one inside gathered ready solved stored =
+lift-step {p} {D} {N} {f} {d} {t} {inverse} {a} {s} {s′} {E} {R} l one inside gathered ready solved stored =
     let e = l .ordered in
     let b = l .bound in
     let pos = p-pos (l .prime) in
@@ -232,14 +236,14 @@ lift-step p D N f d t w a s s′ E R l one inside gathered ready solved stored =
     let E-below : AllBelow p E = λ k g. subst (λ x. x < p) (sym (ap (λ x. word x k) gathered ∙ word-tabulate (D + 1) _ k (omega arith))) (mod-lt _ pos) in
     let S : Solves p 0 d (λ j. given D N f (d + j) 0) E R =
     subst (λ r. Solves p 0 d (λ j. given D N f (d + j) 0) E r) (sym solved)
-    (solve-solves p 0 (l .prime .two-le) pos (λ j. given D N f (d + j) 0) (D + 1 - d) (λ j g. rows-past f N (D + 1) (d + j) 0 (omega arith)) a (ready .long) (ready .quotient) w (ready .unit) d E
+    (solve-solves p 0 (l .prime .two-le) pos (λ j. given D N f (d + j) 0) (D + 1 - d) (λ j g. rows-past f N (D + 1) (d + j) 0 (omega arith)) a (ready .long) (ready .quotient) inverse (ready .unit) d E
     (let z = ready .long in omega arith) E-below) in
     lifted p D N f (l .prime) (l .f-below) (subst (λ x. x ≤ D) e b) t s s′ E R one inside (l .roomy) (l .words)
     (gathered ∙ ap (λ x. tabulate (D + 1) (λ j. (given D N f j t + (p - middleSum (lowRows N x s) (highRows D N x s) j t % p)) % p)) e)
     (subst (λ x. Solves p 0 x (λ j. given D N f (x + j) 0) E R) e S) stored
 
 -- what `prepare` makes of L, column 0 of the rows of f from d on
-module _ (p D N : ℕ) (f : List ℕ) (d t : ℕ) (s : List ℕ) (l : Lifting p D N f d t s) (L : List ℕ)
+module _ {p D N : ℕ} {f : List ℕ} {d t : ℕ} {s : List ℕ} (l : Lifting p D N f d t s) {L : List ℕ}
     (loaded : L ≡ tabulate (D + 1 - d) (λ j. word (from f (d * N)) (j * N + 0))) where
   L-long : length L ≡ D + 1 - d
   L-long = ap length loaded ∙ length-tabulate (D + 1 - d) _
@@ -294,7 +298,7 @@ module _ (p D N : ℕ) (f : List ℕ) (d t : ℕ) (s : List ℕ) (l : Lifting p 
       }
 
 -- the column of `lift_column`, at the front of an array: E as it is gathered, R as it is solved
-module _ (p D N : ℕ) (f : List ℕ) (d t inverse : ℕ) (a s : List ℕ) (l : Lifting p D N f d t s) (ready : Prepared p 0 (D + 1 - d) (λ j. given D N f (d + j) 0) inverse a)
+module _ {p D N : ℕ} {f : List ℕ} {d t inverse : ℕ} {a s : List ℕ} (l : Lifting p D N f d t s) (ready : Prepared p 0 (D + 1 - d) (λ j. given D N f (d + j) 0) inverse a)
     (zs : List ℕ) {E : List ℕ} (gathered : E ≡ tabulate (D + 1) (λ j. (given D N f j t + (p - middleSum (lowRows N d s) (highRows D N d s) j t % p)) % p)) where
   column-length : length E ≡ D + 1
   column-length = ap length gathered ∙ length-tabulate (D + 1) _
@@ -332,7 +336,7 @@ module _ (p D N : ℕ) (f : List ℕ) (d t inverse : ℕ) (a s : List ℕ) (l : 
     pub solution-long : length (take (D + 1) (R ++ zs′)) ≡ D + 1
     solution-long = ap length (take-at R zs′ (D + 1) solution-length) ∙ solution-length
 
-    pub store-fits : (length (take (D + 1) (R ++ zs′)) ≤ 33) × (length (take (D + 1) (R ++ zs′)) * N ≤ length s)
+    pub store-fits : (length (take (D + 1) (R ++ zs′)) ≤ mostRows) × (length (take (D + 1) (R ++ zs′)) * N ≤ length s)
     store-fits =
         let h = l .degree-high in
         let room = l .roomy in
@@ -343,31 +347,31 @@ module _ (p D N : ℕ) (f : List ℕ) (d t inverse : ℕ) (a s : List ℕ) (l : 
 
     pub column-done : {s′ : List ℕ} → 1 ≤ t → t < N → ColumnStored N t (take (D + 1) (R ++ zs′)) s s′ → PairDone p D N f (t + 1) s s′
     column-done {s′} one inside stored =
-        lift-step p D N f d t inverse a s s′ E R l one inside gathered ready solved-is (subst (λ r. ColumnStored N t r s s′) (take-at R zs′ (D + 1) solution-length) stored)
+        lift-step l one inside gathered ready solved-is (subst (λ r. ColumnStored N t r s s′) (take-at R zs′ (D + 1) solution-length) stored)
 
 -- A at X = 0, at the front of an array: as it is loaded, and as it is prepared
-module _ (p D N : ℕ) (f : List ℕ) (d t : ℕ) (s : List ℕ) (l : Lifting p D N f d t s) (zs₀ zs : List ℕ) (size : D + 1 - d ≤ length zs₀) {L : List ℕ}
+module _ {p D N : ℕ} {f : List ℕ} {d t : ℕ} {s : List ℕ} (l : Lifting p D N f d t s) (zs₀ zs : List ℕ) (size : D + 1 - d ≤ length zs₀) {L : List ℕ}
     (loaded : L ≡ tabulate (length (take (D + 1 - d) zs₀)) (λ j. word (from f (d * N)) (j * N + 0))) where
   loaded-is : L ≡ tabulate (D + 1 - d) (λ j. word (from f (d * N)) (j * N + 0))
   loaded-is = loaded ∙ ap (λ n. tabulate n (λ j. word (from f (d * N)) (j * N + 0))) (length-take-le (D + 1 - d) zs₀ size)
 
   front : take (D + 1 - d) (L ++ zs) ≡ L
-  front = take-at L zs (D + 1 - d) (L-long p D N f d t s l L loaded-is)
+  front = take-at L zs (D + 1 - d) (L-long l loaded-is)
 
   pub front-long : length (take (D + 1 - d) (L ++ zs)) ≡ D + 1 - d
-  front-long = ap length front ∙ L-long p D N f d t s l L loaded-is
+  front-long = ap length front ∙ L-long l loaded-is
 
   pub front-fits : D + 1 - d ≤ length (L ++ zs)
-  front-fits = omega (arith, length-append L zs, L-long p D N f d t s l L loaded-is)
+  front-fits = omega (arith, length-append L zs, L-long l loaded-is)
 
   pub front-some : 1 ≤ length (take (D + 1 - d) (L ++ zs))
   front-some = let b = l .bound in omega (arith, front-long)
 
   pub front-below : AllBelow p (take (D + 1 - d) (L ++ zs))
-  front-below = subst (AllBelow p) (sym front) (loaded-below p D N f d t s l L loaded-is)
+  front-below = subst (AllBelow p) (sym front) (loaded-below l loaded-is)
 
   pub front-value : 1 ≤ word (hornerWords p 0 (take (D + 1 - d) (L ++ zs))) 0
-  front-value = subst (λ x. 1 ≤ word (hornerWords p 0 x) 0) (sym front) (value-low p D N f d t s l L loaded-is)
+  front-value = subst (λ x. 1 ≤ word (hornerWords p 0 x) 0) (sym front) (value-low l loaded-is)
 
   module _ (zs′ : List ℕ) {H : List ℕ} {w : ℕ} (is : w ≡ inverseOf p (word (hornerWords p 0 (take (D + 1 - d) (L ++ zs))) 0)) (made : H ≡ hornerWords p 0 (take (D + 1 - d) (L ++ zs))) where
     H-long : length H ≡ D + 1 - d
@@ -387,21 +391,25 @@ module _ (p D N : ℕ) (f : List ℕ) (d t : ℕ) (s : List ℕ) (l : Lifting p 
     front-prepared =
         subst (λ a. Prepared p 0 (D + 1 - d) (λ j. given D N f (d + j) 0) w a) (sym rest-is)
         (subst (λ x. Prepared p 0 (D + 1 - d) (λ j. given D N f (d + j) 0) x (drop 1 (hornerWords p 0 L))) (sym (is ∙ ap (λ x. inverseOf p (word (hornerWords p 0 x) 0)) front))
-        (prepared p D N f d t s l L loaded-is))
+        (prepared l loaded-is))
 
 -- the rows of f from d on
-module _ (p D N : ℕ) (f : List ℕ) (d t : ℕ) (s : List ℕ) (l : Lifting p D N f d t s) where
+module _ {p D N : ℕ} {f : List ℕ} {d t : ℕ} {s : List ℕ} (l : Lifting p D N f d t s) where
   pub seam-small : d * N ≤ 8448
-  seam-small = let b = l .bound in let h = l .degree-high in let w = l .terms-high in let m : d * N ≤ 33 * 256 = mul-le-mul {n₂ = 33} {m₂ = 256} (omega arith) (omega arith) in m
+  seam-small = let b = l .bound in let h = l .degree-high in few-words d N (omega arith) (l .width-high)
 
-  rows-split : d * N + (D + 1 - d) * N ≡ length f
-  rows-split = let b = l .bound in sym (add-mul d (D + 1 - d) N) ∙ ap (λ x. x * N) (let z : d + (D + 1 - d) ≡ D + 1 = omega arith in z) ∙ sym (l .f-long)
+  pub seam-inside : d * N ≤ length f
+  seam-inside = let e = l .f-long in omega (arith, split D N d (l .bound))
 
-  pub seam-fits : d * N ≤ length f
-  seam-fits = omega (arith, rows-split)
+  pub front-rows : D + 1 - d ≤ mostRows
+  front-rows = let h = l .degree-high in omega arith
 
-  pub load-fits : (zs : List ℕ) → D + 1 - d ≤ length zs → (length (take (D + 1 - d) zs) ≤ 33) × (length (take (D + 1 - d) zs) * N ≤ length (from f (d * N)))
+  pub front-low : 1 ≤ D + 1 - d
+  front-low = let b = l .bound in omega arith
+
+  pub load-fits : (zs : List ℕ) → D + 1 - d ≤ length zs → (length (take (D + 1 - d) zs) ≤ mostRows) × (length (take (D + 1 - d) zs) * N ≤ length (from f (d * N)))
   load-fits zs size =
       let e = length-take-le (D + 1 - d) zs size in
       let h = l .degree-high in
-      (omega arith, subst (λ x. x * N ≤ length (from f (d * N))) (sym e) (omega (arith, rows-split, length-from f (d * N))))
+      let k = l .f-long in
+      (omega arith, subst (λ x. x * N ≤ length (from f (d * N))) (sym e) (omega (arith, split D N d (l .bound), length-from f (d * N))))

@@ -12,18 +12,19 @@ use mathlib.Core.Path.{_≡_, refl, sym, _∙_, ap, subst}
 use mathlib.Core.Logic.{_≢_, _↔_, ⊎-elim}
 use mathlib.Core.Bool.{true, not}
 use mathlib.Core.List.{List}
-use borrow.Author.Tests.{ne-eqb, eqb-true, eqb-false, not-true, not-false, lt-ltb, le-ltb, ltb-true}
+use borrow.Author.Tests.{ne-eqb, eqb-true, eqb-false, not-true, not-false, lt-ltb, le-ltb}
 use lib.Dec.{eqb, ltb}
 use lib.ListN.{length, take, drop}
 use lib.Seq.{ext-getD, getD-take, getD-drop, length-take-le}
 use Rattle.algebra.specs.Fp.{Prime, p-pos}
 use Rattle.numbers.specs.Words.{word, choose, AllBelow}
 use Rattle.numbers.proofs.WordsLaws.{lt-or-ge, first-before, first-found}
-use Rattle.numbers.proofs.TestsLaws.{all-at, all-of, _&_, none-left, allTo-at, at-allTo, square}
+use Rattle.numbers.proofs.TestsLaws.{all-at, all-of, _&_, none-left, square}
 use Rattle.rows.specs.Rows.{table, mul, monic}
 use Rattle.rows.proofs.RowsLaws.{rows-below, rows-past, rows-bound, length-table, word-table, by-row}
+use Rattle.rows.proofs.RowsBelowLaws.{rowsBelow-at, at-rowsBelow}
 use Rattle.rows.proofs.MulLaws.{mul-ext}
-use Rattle.pair.specs.Pair.{orderOf, order, given, lowRows, highRows, IsPair, PairWords, rowsBelow, productTest, pairTest}
+use Rattle.pair.specs.Pair.{orderOf, order, given, lowRows, highRows, IsPair, PairWords, productTest, pairTest}
 use Rattle.rows.proofs.MonicLaws.{monic-ext}
 use Rattle.pair.proofs.PairLaws.{pair-unique, pair-b, pair-c, pair-lt, pair-is}
 
@@ -166,13 +167,6 @@ module _ (p D N : ℕ) (f : List ℕ) (prime : Prime p) where
     )
 
   -- PairWords and the test that computes
-  below-test : (q : ℕ) (s : List ℕ) (rows from to : ℕ) → (rowsBelow q s N rows from to ≡ true) ↔ ((j : ℕ) → j < rows → (t : ℕ) → from ≤ t → t < to → word s (j * N + t) < q)
-  unfolding rowsBelow
-  below-test q s rows from to = (
-    λ e j l t g u. subst (λ x. word s (j * N + x) < q) (let z : from + (t - from) ≡ t = omega arith in z) (ltb-true _ _ (allTo-at (to - from) _ (allTo-at rows _ e j l) (t - from) (omega arith))),
-    λ h. at-allTo rows _ (λ j l. at-allTo (to - from) _ (λ t g. lt-ltb _ _ (h j l (from + t) (omega arith) (omega arith)))),
-  )
-
   module _ (bound : d ≤ D) (k : ℕ) (one : 1 ≤ k) (s : List ℕ) where
     first-word : word s (d * N) ≡ highRows D N d s 0 0
     first-word = sym (high-word D N d s 0 0 (omega arith) ∙ ap (word s) (let z : (d + 0) * N + 0 ≡ d * N = ap (λ x. x * N + 0) (add-zero d) ∙ add-zero (d * N) in z))
@@ -184,22 +178,22 @@ module _ (p D N : ℕ) (f : List ℕ) (prime : Prime p) where
         bound = bound;
         there = order-there D N f bound;
         least = order-least D N f bound;
-        first = λ j l. low-word N d s j 0 l ∙ (let z = below-test 1 s d 0 1 .0 (all-at _ e 2) j l 0 zero-le (omega arith) in omega arith);
+        first = λ j l. low-word N d s j 0 l ∙ (let z = rowsBelow-at 1 s N d 0 1 (all-at _ e 2) j l 0 zero-le (omega arith) in omega arith);
         height = λ j t l. high-past D N d s j t l;
         unit = λ z. eqb-false (word s (d * N)) 0 (not-true _ (all-at _ e 3)) (first-word ∙ z);
         same = λ j l t g. square (D + 1) k (mul p (monic d (lowRows N d s)) (highRows D N d s)) (given D N f) .0 (all-at _ e 4) j (omega arith) t g;
       };
-      reduced = λ j l t g. below-test p s (D + 1) 0 k .0 (all-at _ e 0) j l t zero-le g;
-      rest = λ j l t g u. let z = below-test 1 s (D + 1) k N .0 (all-at _ e 1) j l t g u in omega arith;
+      reduced = λ j l t g. rowsBelow-at p s N (D + 1) 0 k (all-at _ e 0) j l t zero-le g;
+      rest = λ j l t g u. let z = rowsBelow-at 1 s N (D + 1) k N (all-at _ e 1) j l t g u in omega arith;
     }
 
     pub pair-passes : PairWords p D N f k s → pairTest p D N f k s ≡ true
     unfolding pairTest productTest
     pair-passes h =
         all-of (
-        below-test p s (D + 1) 0 k .1 (λ j l t _ g. h .reduced j l t g)
-        & below-test 1 s (D + 1) k N .1 (λ j l t g u. let z = h .rest j l t g u in omega arith)
-        & below-test 1 s d 0 1 .1 (λ j l t _ g. let e : t ≡ 0 = omega arith in let z = sym (low-word N d s j 0 l) ∙ h .pair .first j l in
+        at-rowsBelow p s N (D + 1) 0 k (λ j l t _ g. h .reduced j l t g)
+        & at-rowsBelow 1 s N (D + 1) k N (λ j l t g u. let z = h .rest j l t g u in omega arith)
+        & at-rowsBelow 1 s N d 0 1 (λ j l t _ g. let e : t ≡ 0 = omega arith in let z = sym (low-word N d s j 0 l) ∙ h .pair .first j l in
         subst (λ x. word s (j * N + x) < 1) (sym e) (omega arith))
         & rw (ne-eqb (word s (d * N)) 0 (λ e. h .pair .unit (sym first-word ∙ e))) refl
         & square (D + 1) k _ _ .1 (λ j l t g. h .pair .same j (omega arith) t g)

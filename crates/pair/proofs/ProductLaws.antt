@@ -12,6 +12,7 @@ use lib.Dec.{ltb, eqb}
 use Rattle.algebra.specs.Sums.{sumTo, sumTo-suc, sumTo-front, sumTo-ext, sumTo-zeros, sumTo-add}
 use Rattle.numbers.specs.Words.{choose, AllBelow}
 use Rattle.numbers.proofs.WordsLaws.{lt-or-ge}
+use Rattle.numbers.specs.Limits.{modulusBound, largestWidth}
 use Rattle.rows.specs.Rows.{rowsOf, mul, monic}
 use Rattle.rows.specs.Passes.{passSum}
 use Rattle.rows.proofs.RowsLaws.{passTerm, pass-column, rows-past, rows-bound, passes-bound}
@@ -72,7 +73,7 @@ module _ (low : List ℕ) (d : ℕ) (high : List ℕ) (k n j t : ℕ) where
   row-turn p x y e g =
       ap₂ (λ (x y : ℕ). (x + y) % p) e g ∙ sym (monic-product d (rowsOf low n d) (rowsOf high n k) (λ i s l. rows-past low n d i s l) j t p)
 
-  pub row-small : AllBelow 16777216 low → AllBelow 16777216 high → t + 1 ≤ 256 → j < 66
+  pub row-small : AllBelow modulusBound low → AllBelow modulusBound high → t + 1 ≤ largestWidth → j < 66
       → passSum (rowsOf low n d) (rowsOf high n k) j 0 (t + 1) ≤ 66 * (256 * (16777215 * 16777215))
   unfolding passSum
   row-small lb hb h l =
@@ -80,6 +81,6 @@ module _ (low : List ℕ) (d : ℕ) (high : List ℕ) (k n j t : ℕ) where
       let m : suc j * (256 * (16777215 * 16777215)) ≤ 66 * (256 * (16777215 * 16777215)) = omega arith in
       omega arith
 
-  pub leading-small : AllBelow 16777216 high → choose (ltb j d) 0 (rowsOf high n k (j - d) t) < 16777216
+  pub leading-small : AllBelow modulusBound high → choose (ltb j d) 0 (rowsOf high n k (j - d) t) < modulusBound
   leading-small hb =
-      ⊎-elim (λ (l : j < d). rw (lt-ltb j d l) (omega arith)) (λ (l : d ≤ j). rw (le-ltb j d l) (rows-bound 16777216 high n k (j - d) t (omega arith) hb)) (lt-or-ge j d)
+      ⊎-elim (λ (l : j < d). rw (lt-ltb j d l) (omega arith)) (λ (l : d ≤ j). rw (le-ltb j d l) (rows-bound modulusBound high n k (j - d) t (omega arith) hb)) (lt-or-ge j d)

@@ -1,25 +1,25 @@
--- Laws for the checks and the tests: the order as a loop finds it, columns that are gathered, and tests over rows.
+-- Laws for the checks and the tests: the order as a loop finds it, the parts of the pair's test, and refusals 13, 14 and 15.
 -- Assumes nothing.
-use mathlib.Core.Path.{_≡_, refl, sym, ap, subst, _∙_}
+use mathlib.Core.Path.{_≡_, refl, sym, ap, _∙_}
 use mathlib.Core.Logic.{⊎-elim}
 use mathlib.Core.Bool.{Bool, true, false, not, _||_}
 use mathlib.Core.List.{List, [], _∷_}
 use Prim.Native.Nat.{ℕ, zero, suc, _+_, _-_, _*_, _≤_, _<_, zero-le}
-use native.Mathlib.Nat.{add-zero, zero-add}
+use native.Mathlib.Nat.{add-zero}
 use native.Mathlib.Omega.{arith}
-use borrow.Author.Tests.{lt-ltb, le-ltb, ltb-true, ltb-false, eq-eqb, ne-eqb, eqb-false, not-true}
+use borrow.Author.Tests.{lt-ltb, le-ltb, ltb-false, eq-eqb, ne-eqb, eqb-false, not-true}
 use lib.Dec.{ltb, eqb}
-use lib.ListN.{length, getD, take, drop, length-drop}
-use lib.Seq.{getD-take, getD-drop, length-take-le}
-use Rattle.numbers.specs.Words.{word, choose, firstLarge, outside, allTo, all}
-use Rattle.numbers.specs.Refusals.{Check, judge, check, operationChecks}
+use lib.ListN.{getD}
+use Rattle.numbers.specs.Words.{word, choose, outside, all}
+use Rattle.numbers.specs.Refusals.{Check, judge, check, operationChecks, beyondCheck, behindCheck}
 use Rattle.numbers.specs.declared.refusal.Verdict.the-variants.{Pass}
-use Rattle.numbers.proofs.WordsLaws.{lt-or-ge, first-is, none-large, true-false, large-there}
-use Rattle.numbers.proofs.TestsLaws.{not-both, allTo-at, allTo-false, at-allTo}
+use Rattle.numbers.proofs.WordsLaws.{lt-or-ge, first-is, true-false}
+use Rattle.numbers.proofs.TestsLaws.{not-both}
 use Rattle.numbers.proofs.RefusalsLaws.{pass-parts, pass-check, Operation, operation-pass}
-use Rattle.rows.specs.Rows.{rowsOf}
+use Rattle.rows.specs.Rows.{rowsOf, rowsBelow}
 use Rattle.rows.proofs.RowsLaws.{rows-below, by-row}
-use Rattle.pair.specs.Pair.{orderOf, order, rowsBelow, productTest, pairTest, firstChecks}
+use Rattle.rows.proofs.RowsBelowLaws.{rowsBelow-at}
+use Rattle.pair.specs.Pair.{orderOf, order, productTest, pairTest, firstChecks}
 
 -- the row that is not 0 at X = 0, and below which every row is
 pub order-is : (f : List ℕ) (n rows r : ℕ) → r ≤ rows → ((k : ℕ) → k < r → word f (k * n) ≡ 0) → (r < rows → word f (r * n) ≡ 0 → ⊥)
@@ -37,40 +37,6 @@ leading-none j d x l = rw (lt-ltb j d l)
 
 pub leading-row : (s : List ℕ) (n k j d t : ℕ) → d ≤ j → j < d + k → word s ((j - d) * n + t) ≡ choose (ltb j d) 0 (rowsOf s n k (j - d) t)
 leading-row s n k j d t l h = rw (le-ltb j d l) (sym (rows-below s n k (j - d) t (omega arith)))
-
--- the columns from..to − 1 of row j, as `first_large` is lent them
-module _ (q : ℕ) (s : List ℕ) (n j from to : ℕ) (ordered : from ≤ to) (fits : j * n + to ≤ length s) where
-  abbrev pub columns : List ℕ
-  columns = take (j * n + to - (j * n + from)) (drop (j * n + from) s)
-
-  length-columns : length columns ≡ to - from
-  length-columns =
-      let e : j * n + to - (j * n + from) ≡ to - from = omega arith in
-      length-take-le (j * n + to - (j * n + from)) (drop (j * n + from) s) (simp length-drop (omega arith)) ∙ e
-
-  column-word : (t : ℕ) → t < to - from → word columns t ≡ word s (j * n + (from + t))
-  column-word t l =
-      getD-take (j * n + to - (j * n + from)) (drop (j * n + from) s) t 0 (omega arith) ∙ getD-drop (j * n + from) s t 0
-      ∙ ap (word s) (let e : j * n + from + t ≡ j * n + (from + t) = omega arith in e)
-
-  pub columns-pass : to - from ≤ firstLarge q columns → allTo (to - from) (λ t. ltb (word s (j * n + (from + t))) q) ≡ true
-  columns-pass h = at-allTo (to - from) _ (λ t l.
-      lt-ltb _ q (subst (λ x. x < q) (column-word t l) (none-large q columns (omega (arith, length-columns)) t (omega (arith, length-columns)))))
-
-  pub columns-fail : firstLarge q columns < to - from → allTo (to - from) (λ t. ltb (word s (j * n + (from + t))) q) ≡ false
-  columns-fail h =
-      allTo-false (to - from) _ (firstLarge q columns) h
-      (le-ltb _ q (subst (λ x. q ≤ x) (column-word (firstLarge q columns) h) (large-there q columns (omega (arith, length-columns)))))
-
-pub rows-fail : (q : ℕ) (s : List ℕ) (n rows from to j : ℕ) → j < rows → allTo (to - from) (λ t. ltb (word s (j * n + (from + t))) q) ≡ false
-    → false ≡ rowsBelow q s n rows from to
-unfolding rowsBelow
-rows-fail q s n rows from to j l e = sym (allTo-false rows _ j l e)
-
-pub rows-pass : (q : ℕ) (s : List ℕ) (n rows from to j : ℕ) → j ≡ rows → ((k : ℕ) → k < j → allTo (to - from) (λ t. ltb (word s (k * n + (from + t))) q) ≡ true)
-    → true ≡ rowsBelow q s n rows from to
-unfolding rowsBelow
-rows-pass q s n rows from to j e h = sym (at-allTo rows _ (λ k l. h k (omega arith)))
 
 -- the tests of `pairTest`, at a given order
 abbrev tests : (p D N : ℕ) (f : List ℕ) (k : ℕ) (s : List ℕ) → ℕ → List Bool
@@ -93,14 +59,14 @@ module _ (p D N : ℕ) (f : List ℕ) (k : ℕ) (s : List ℕ) (d : ℕ) (o : d 
   unfolding pairTest
   pair-test-is = ap (λ (x : ℕ). all (tests p D N f k s x)) (sym o)
 
-  pub pair-fails-first : rowsBelow p s N (D + 1) 0 k ≡ false → false ≡ pairTest p D N f k s
-  pair-fails-first e = sym (pair-test-is ∙ all-fails (tests p D N f k s d) 0 e)
+  pub pair-fails-first : {b : Bool} → b ≡ rowsBelow p s N (D + 1) 0 k → not b ≡ true → false ≡ pairTest p D N f k s
+  pair-fails-first {b} e t = sym (pair-test-is ∙ all-fails (tests p D N f k s d) 0 (sym e ∙ not-true b t))
 
-  pub pair-fails-rest : rowsBelow 1 s N (D + 1) k N ≡ false → false ≡ pairTest p D N f k s
-  pair-fails-rest e = sym (pair-test-is ∙ all-fails (tests p D N f k s d) 1 e)
+  pub pair-fails-rest : {b : Bool} → b ≡ rowsBelow 1 s N (D + 1) k N → not b ≡ true → false ≡ pairTest p D N f k s
+  pair-fails-rest {b} e t = sym (pair-test-is ∙ all-fails (tests p D N f k s d) 1 (sym e ∙ not-true b t))
 
-  pub pair-fails-low : rowsBelow 1 s N d 0 1 ≡ false → false ≡ pairTest p D N f k s
-  pair-fails-low e = sym (pair-test-is ∙ all-fails (tests p D N f k s d) 2 e)
+  pub pair-fails-low : {b : Bool} → b ≡ rowsBelow 1 s N d 0 1 → not b ≡ true → false ≡ pairTest p D N f k s
+  pair-fails-low {b} e t = sym (pair-test-is ∙ all-fails (tests p D N f k s d) 2 (sym e ∙ not-true b t))
 
   pub pair-fails-unit : word s (d * N) ≡ 0 → false ≡ pairTest p D N f k s
   pair-fails-unit e = sym (pair-test-is ∙ all-fails (tests p D N f k s d) 3 (ap not (eq-eqb (word s (d * N)) 0 e)))
@@ -117,29 +83,32 @@ module _ (p D N : ℕ) (f : List ℕ) (k : ℕ) (s : List ℕ) (d : ℕ) (o : d 
 -- the words below column h are below q, and the others are 0: all are below q
 pub words-below : (q : ℕ) (s : List ℕ) (N rows h : ℕ) → 1 ≤ q → 1 ≤ h → h ≤ N → rowsBelow q s N rows 0 h ≡ true → rowsBelow 1 s N rows h N ≡ true
     → (i : ℕ) → i < rows * N → word s i < q
-unfolding rowsBelow
 words-below q s N rows h pos one fits e g = by-row rows N (λ i. word s i < q) (omega arith) (λ j l t u.
-    ⊎-elim
-    (λ (v : t < h). subst (λ x. word s (j * N + x) < q) (zero-add t) (ltb-true _ _ (allTo-at (h - 0) _ (allTo-at rows _ e j l) t (omega arith))))
-    (λ (v : h ≤ t).
-    let z = subst (λ x. word s (j * N + x) < 1) (let y : h + (t - h) ≡ t = omega arith in y) (ltb-true _ _ (allTo-at (N - h) _ (allTo-at rows _ g j l) (t - h) (omega arith))) in
-    omega arith)
-    (lt-or-ge t h))
+    ⊎-elim (λ v. rowsBelow-at q s N rows 0 h e j l t zero-le v) (λ v. let z = rowsBelow-at 1 s N rows h N g j l t v u in omega arith) (lt-or-ge t h))
 
--- rows 13, 14 and 15 of `continueChecks`
+-- the checks after refusals 1 to 11
+abbrev pub pairRow : (p D N : ℕ) (f : List ℕ) (h : ℕ) (old : List ℕ) → Check
+pairRow p D N f h old = check 13 (outside 1 N h || not (pairTest p D N f h old)) 0
+
 abbrev pub continueRows : (p D N : ℕ) (f : List ℕ) (h w : ℕ) (old : List ℕ) → List Check
-continueRows p D N f h w old =
-    check 13 (outside 1 N h || not (pairTest p D N f h old)) 0
-    ∷ check 14 (outside 1 N w) 0
-    ∷ check 15 (ltb w h) 0
-    ∷ []
+continueRows p D N f h w old = pairRow p D N f h old ∷ beyondCheck N w ∷ behindCheck h w ∷ []
 
--- what rows 1 to 11 let pass
-pub record First (p D N : ℕ) (f : List ℕ) (room : ℕ) : Type 0 where
+-- refusal 13 in its two parts
+pub either-first : (a b : Bool) → a ≡ true → a || b ≡ true
+either-first a b e = rw e
+
+pub either-second : (a b : Bool) → a ≡ false → b ≡ true → a || b ≡ true
+either-second a b e g = rw e g
+
+pub either-none : (a b : Bool) → a ≡ false → b ≡ false → a || b ≡ false
+either-none a b e g = rw e g
+
+-- what checks 1 to 11 let pass
+pub record FirstPass (p D N : ℕ) (f : List ℕ) (room : ℕ) : Type 0 where
   pub operation : Operation p N f (D + 1) [] 0 (D + 1) room
   pub bound : order D N f ≤ D
 
-pub first-pass : (p D N : ℕ) (f : List ℕ) (room : ℕ) → judge (firstChecks p D N f room) ≡ Pass → First p D N f room
+pub first-pass : (p D N : ℕ) (f : List ℕ) (room : ℕ) → judge (firstChecks p D N f room) ≡ Pass → FirstPass p D N f room
 first-pass p D N f room e =
     let m = pass-parts (operationChecks p N f (D + 1) [] 0 (D + 1) room) _ e in
     record {

@@ -8,6 +8,7 @@ use mathlib.Core.List.{List}
 use lib.ListN.{length}
 use Rattle.algebra.specs.Fp.{Prime}
 use Rattle.numbers.specs.Words.{word, AllBelow}
+use Rattle.numbers.specs.Limits.{modulusBound, largestDegree, largestWidth}
 use Rattle.columns.specs.Column.{firstOnly}
 use Rattle.pair.specs.Pair.{order, PairWords}
 
@@ -16,10 +17,10 @@ startRows f N j = firstOnly (word f (j * N))
 
 pub record Lifting (p D N : ℕ) (f : List ℕ) (d t : ℕ) (s : List ℕ) : Type 0 where
   pub prime : Prime p
-  pub small : p < 16777216
-  pub degree-high : D ≤ 32
-  pub terms-low : 1 ≤ N
-  pub terms-high : N ≤ 256
+  pub small : p < modulusBound
+  pub degree-high : D ≤ largestDegree
+  pub width-low : 1 ≤ N
+  pub width-high : N ≤ largestWidth
   pub f-long : length f ≡ (D + 1) * N
   pub f-below : AllBelow p f
   pub ordered : d ≡ order D N f

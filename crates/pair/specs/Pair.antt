@@ -15,8 +15,8 @@ use mathlib.Core.List.{List, [], _∷_, _++_}
 use lib.Dec.{ltb, eqb}
 use lib.ListN.{length, drop}
 use Rattle.numbers.specs.Words.{word, firstWhere, outside, allTo, all}
-use Rattle.numbers.specs.Refusals.{Check, check, judge, Outcome, result, operationChecks, Leaves}
-use Rattle.rows.specs.Rows.{rowsOf, mul, monic}
+use Rattle.numbers.specs.Refusals.{Check, check, judge, Outcome, result, operationChecks, beyondCheck, behindCheck, Leaves}
+use Rattle.rows.specs.Rows.{rowsOf, mul, monic, rowsBelow}
 
 unfoldable pub orderOf : ℕ → (ℕ → ℕ → ℕ) → ℕ
 orderOf rows f = firstWhere (λ j. not (eqb (f j 0) 0)) 0 rows
@@ -48,10 +48,6 @@ pub record PairWords (p D N : ℕ) (f : List ℕ) (k : ℕ) (s : List ℕ) : Typ
   pub reduced : (j : ℕ) → j < D + 1 → (t : ℕ) → t < k → word s (j * N + t) < p
   pub rest : (j : ℕ) → j < D + 1 → (t : ℕ) → k ≤ t → t < N → word s (j * N + t) ≡ 0
 
--- columns from..to − 1 of the rows are below q
-unfoldable pub rowsBelow : (q : ℕ) (s : List ℕ) (N rows from to : ℕ) → Bool
-rowsBelow q s N rows from to = allTo rows (λ j. allTo (to - from) (λ t. ltb (word s (j * N + (from + t))) q))
-
 -- P · A = f to k terms
 unfoldable pub productTest : (p D N : ℕ) (f : List ℕ) (d k : ℕ) (s : List ℕ) → Bool
 productTest p D N f d k s = allTo (D + 1) (λ j. allTo k (λ t. eqb (mul p (monic d (lowRows N d s)) (highRows D N d s) j t) (given D N f j t)))
@@ -68,19 +64,19 @@ pairTest p D N f k s =
     ∷ []
     )
 
--- rows 1 to 11
+-- refusals 1 to 11
 abbrev pub firstChecks : (p D N : ℕ) (f : List ℕ) (room : ℕ) → List Check
 firstChecks p D N f room = operationChecks p N f (D + 1) [] 0 (D + 1) room ++ (check 11 (ltb D (order D N f)) 0 ∷ [])
 
 abbrev pub pairChecks : (p D N : ℕ) (f : List ℕ) (w room : ℕ) → List Check
-pairChecks p D N f w room = firstChecks p D N f room ++ (check 14 (outside 1 N w) 0 ∷ [])
+pairChecks p D N f w room = firstChecks p D N f room ++ (beyondCheck N w ∷ [])
 
 abbrev pub continueChecks : (p D N : ℕ) (f : List ℕ) (h w : ℕ) (old : List ℕ) → List Check
 continueChecks p D N f h w old =
     firstChecks p D N f (length old) ++ (
     check 13 (outside 1 N h || not (pairTest p D N f h old)) 0
-    ∷ check 14 (outside 1 N w) 0
-    ∷ check 15 (ltb w h) 0
+    ∷ beyondCheck N w
+    ∷ behindCheck h w
     ∷ []
     )
 

@@ -1,24 +1,27 @@
 // The Weierstrass pair f = P · A modulo X^w of a row polynomial: P is monic of degree d, the order of f, and is Y^d at X = 0; A has D − d + 1
 // rows and is not 0 at X = 0, Y = 0. Rows 0..d−1 of the output are P's rows below Y^d, rows d..D are A's, columns from w up are 0.
 use numbers::judge::check_operation;
+use numbers::judge::outside;
+use numbers::limits::MOST_ROWS;
 use numbers::refusal::Answer;
-use numbers::refusal::Refusal;
 use numbers::refusal::Verdict;
 use numbers::refusal::refuse;
+use rows::kernel::rows_below;
 ghost use mathlib.Core.Path.{_≡_};
 ghost use Prim.Native.Nat.{ℕ, _+_, _-_, _*_, _%_, _≤_, _<_};
 ghost use lib.ListN.{length};
 ghost use Rattle.numbers.specs.Refusals.{judge, outcome};
 ghost use Rattle.numbers.specs.Words.{word, allTo, tabulate, over, choose, AllBelow};
+ghost use Rattle.numbers.specs.Limits.{modulusBound, largestDegree, mostRows, largestWidth};
 ghost use lib.Dec.{ltb, eqb};
 ghost use Rattle.rows.specs.Rows.{rowsOf, table, mul, monic};
-ghost use Rattle.pair.specs.Pair.{orderOf, order, given, lowRows, highRows, firstChecks, pairChecks, continueChecks, rowsBelow, productTest, pairTest, PairDone, Paired, Continued};
+ghost use Rattle.pair.specs.Pair.{orderOf, order, given, lowRows, highRows, firstChecks, pairChecks, continueChecks, productTest, pairTest, PairDone, Paired, Continued};
 ghost use Rattle.columns.specs.Column.{middleSum, Prepared};
 ghost use Rattle.pair.specs.Lifting.{startRows, Lifting};
 
 // The order of f: the first row that is not 0 at X = 0, or the number of rows.
 fn order_of(f: &[u32], n: usize, rows: usize) -> usize
-    requires { ⌜ (length (now f) ≡ rows * n) × (1 ≤ n) × (n ≤ 256) × (rows ≤ 33) ⌝ }
+    requires { ⌜ (length (now f) ≡ rows * n) × (1 ≤ n) × (n ≤ largestWidth) × (rows ≤ mostRows) ⌝ }
     ensures { λ r. ⌜ r ≡ orderOf rows (rowsOf (now (f .entry)) n rows) ⌝ }
 {
     let mut j = 0;
@@ -31,7 +34,7 @@ fn order_of(f: &[u32], n: usize, rows: usize) -> usize
     j
 }
 
-// Rows 1 to 11.
+// Refusals 1 to 11.
 fn check_first(p: u32, d: u32, n: u32, f: &[u32], room: usize) -> Verdict
     ensures { λ r. ⌜ r ≡ judge (firstChecks p d n (now (f .entry)) room) ⌝ }
 {
@@ -48,7 +51,7 @@ fn check_first(p: u32, d: u32, n: u32, f: &[u32], room: usize) -> Verdict
 
 // The pair to one term: column 0 is f's.
 fn start(f: &[u32], n: usize, rows: usize, out: &mut [u32])
-    requires { ⌜ (length (now f) ≡ rows * n) × (1 ≤ n) × (n ≤ 256) × (rows ≤ 33) × (rows * n ≤ length (now out)) ⌝ }
+    requires { ⌜ (length (now f) ≡ rows * n) × (1 ≤ n) × (n ≤ largestWidth) × (rows ≤ mostRows) × (rows * n ≤ length (now out)) ⌝ }
     ensures { λ _. ⌜ now (out .exit) ≡ over (table rows n (startRows (now (f .entry)) n)) (now (out .entry)) ⌝ }
 {
     let mut j = 0;
@@ -97,7 +100,7 @@ fn lift_column(
     ensures { λ _. ⌜ PairDone p deg n (now (f .entry)) (t + 1) (now (out .entry)) (now (out .exit)) ⌝ }
 {
     let rows = deg + 1;
-    let mut column = [0u32; 33];
+    let mut column = [0u32; MOST_ROWS];
     gather_column(p, f, out, deg, n, d, t, &mut column[..rows]);
     columns::solve(p, 0, inverse, a, d, &mut column[..rows]);
     columns::store_column(&column[..rows], n, t, out);
@@ -110,7 +113,7 @@ fn lift(p: u32, f: &[u32], deg: usize, n: usize, d: usize, from: usize, to: usiz
 {
     let k = deg + 1 - d;
     let seam = d * n;
-    let mut a = [0u32; 33];
+    let mut a = [0u32; MOST_ROWS];
     columns::load_column(&f[seam..], n, 0, &mut a[..k]);
     let inverse = columns::prepare(p, 0, &mut a[..k]);
     let mut t = from;
@@ -120,26 +123,9 @@ fn lift(p: u32, f: &[u32], deg: usize, n: usize, d: usize, from: usize, to: usiz
     }
 }
 
-// Columns from..to − 1 of the rows are below q. (Below 1 is 0.)
-fn rows_below(q: u32, s: &[u32], n: usize, rows: usize, from: usize, to: usize) -> bool
-    requires { ⌜ (rows * n ≤ length (now s)) × (rows ≤ 33) × (n ≤ 256) × (from ≤ to) × (to ≤ n) ⌝ }
-    ensures { λ r. ⌜ r ≡ rowsBelow q (now (s .entry)) n rows from to ⌝ }
-{
-    let mut j = 0;
-    while j < rows {
-        let a = j * n + from;
-        let e = j * n + to;
-        if numbers::judge::first_large(q, &s[a..e]) < to - from {
-            return false;
-        }
-        j += 1;
-    }
-    true
-}
-
 // Row j of Y^d · A, column t.
 fn leading(high: &[u32], k: usize, n: usize, j: usize, d: usize, t: usize) -> u64
-    requires { ⌜ (length (now high) ≡ k * n) × (k ≤ 33) × (n ≤ 256) × (t < n) × (j < d + k) ⌝ }
+    requires { ⌜ (length (now high) ≡ k * n) × (k ≤ mostRows) × (n ≤ largestWidth) × (t < n) × (j < d + k) ⌝ }
     ensures { λ r. ⌜ r ≡ choose (ltb j d) 0 (rowsOf (now (high .entry)) n k (j - d) t) ⌝ }
 {
     if j < d {
@@ -160,8 +146,8 @@ fn same_row(
     f: &[u32],
     terms: usize,
 ) -> bool
-    requires { ⌜ (1 ≤ p) × (p < 16777216) × (length (now low) ≡ d * n) × (length (now high) ≡ k * n) × (d ≤ 33) × (k ≤ 33) × (n ≤ 256) × (j < d + k) × (terms ≤ n)
-        × (terms ≤ length (now f)) × AllBelow 16777216 (now low) × AllBelow 16777216 (now high) ⌝ }
+    requires { ⌜ (1 ≤ p) × (p < modulusBound) × (length (now low) ≡ d * n) × (length (now high) ≡ k * n) × (d ≤ mostRows) × (k ≤ mostRows) × (n ≤ largestWidth) × (j < d + k) × (terms ≤ n)
+        × (terms ≤ length (now f)) × AllBelow modulusBound (now low) × AllBelow modulusBound (now high) ⌝ }
     ensures { λ r. ⌜ r ≡ allTo terms (λ t. eqb (mul p (monic d (rowsOf (now (low .entry)) n d)) (rowsOf (now (high .entry)) n k) j t) (word (now (f .entry)) t)) ⌝ }
 {
     let modulus = p as u64;
@@ -179,7 +165,7 @@ fn same_row(
 
 // P · A = f to so many terms.
 fn same_products(p: u32, s: &[u32], n: usize, d: usize, deg: usize, f: &[u32], terms: usize) -> bool
-    requires { ⌜ (1 ≤ p) × (p < 16777216) × ((deg + 1) * n ≤ length (now s)) × (length (now f) ≡ (deg + 1) * n) × (d ≤ deg) × (deg ≤ 32) × (n ≤ 256) × (terms ≤ n)
+    requires { ⌜ (1 ≤ p) × (p < modulusBound) × ((deg + 1) * n ≤ length (now s)) × (length (now f) ≡ (deg + 1) * n) × (d ≤ deg) × (deg ≤ largestDegree) × (n ≤ largestWidth) × (terms ≤ n)
         × ((i : ℕ) → i < (deg + 1) * n → word (now s) i < p) ⌝ }
     ensures { λ r. ⌜ r ≡ productTest p deg n (now (f .entry)) d terms (now (s .entry)) ⌝ }
 {
@@ -210,8 +196,8 @@ fn same_products(p: u32, s: &[u32], n: usize, d: usize, deg: usize, f: &[u32], t
 
 // The first words of s are those of the pair to h terms.
 fn is_pair(p: u32, f: &[u32], deg: usize, n: usize, d: usize, h: usize, s: &[u32]) -> bool
-    requires { ⌜ (1 ≤ p) × (p < 16777216) × ((deg + 1) * n ≤ length (now s)) × (length (now f) ≡ (deg + 1) * n) × (d ≡ order deg n (now f)) × (d ≤ deg) × (deg ≤ 32) × (1 ≤ h)
-        × (h ≤ n) × (n ≤ 256) ⌝ }
+    requires { ⌜ (1 ≤ p) × (p < modulusBound) × ((deg + 1) * n ≤ length (now s)) × (length (now f) ≡ (deg + 1) * n) × (d ≡ order deg n (now f)) × (d ≤ deg) × (deg ≤ largestDegree) × (1 ≤ h)
+        × (h ≤ n) × (n ≤ largestWidth) ⌝ }
     ensures { λ r. ⌜ r ≡ pairTest p deg n (now (f .entry)) h (now (s .entry)) ⌝ }
 {
     let rows = deg + 1;
@@ -230,7 +216,7 @@ fn is_pair(p: u32, f: &[u32], deg: usize, n: usize, d: usize, h: usize, s: &[u32
     same_products(p, s, n, d, deg, f, h)
 }
 
-// Rows 13, 14 and 15, after those before them.
+// Refusals 13, 14 and 15, after those before them.
 fn check_continue(p: u32, d: u32, n: u32, f: &[u32], h: u32, w: u32, out: &[u32]) -> Verdict
     ensures { λ r. ⌜ r ≡ judge (continueChecks p d n (now (f .entry)) h w (now (out .entry))) ⌝ }
 {
@@ -238,10 +224,7 @@ fn check_continue(p: u32, d: u32, n: u32, f: &[u32], h: u32, w: u32, out: &[u32]
     if let Verdict::Refuse(_) = v {
         return v;
     }
-    if h < 1 {
-        return refuse(13, 0);
-    }
-    if n < h {
+    if outside(1, n, h) {
         return refuse(13, 0);
     }
     let deg = d as usize;
@@ -250,10 +233,7 @@ fn check_continue(p: u32, d: u32, n: u32, f: &[u32], h: u32, w: u32, out: &[u32]
     if !is_pair(p, f, deg, width, order, h as usize, out) {
         return refuse(13, 0);
     }
-    if w < 1 {
-        return refuse(14, 0);
-    }
-    if n < w {
+    if outside(1, n, w) {
         return refuse(14, 0);
     }
     if w < h {
@@ -270,10 +250,7 @@ fn check_pair(p: u32, d: u32, n: u32, f: &[u32], w: u32, room: usize) -> Verdict
     if let Verdict::Refuse(_) = v {
         return v;
     }
-    if w < 1 {
-        return refuse(14, 0);
-    }
-    if n < w {
+    if outside(1, n, w) {
         return refuse(14, 0);
     }
     Verdict::Pass

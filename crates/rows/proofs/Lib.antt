@@ -3,3 +3,4 @@ pub mod CheckLaws
 pub mod MulLaws
 pub mod ShiftLaws
 pub mod MonicLaws
+pub mod RowsBelowLaws

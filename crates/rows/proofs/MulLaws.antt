@@ -1,4 +1,4 @@
--- The product of row polynomials is that of polynomials over the numbers below p. What a slice holds after `rows::multiply`, read as rows, is
+-- The product of row polynomials is that of polynomials over the numbers below p. What a slice holds after `rows::product`, read as rows, is
 -- the product of what the two slices held.
 -- Assumes nothing.
 use mathlib.Core.Path.{_≡_, sym, ap, ap₂, _∙_, fun-ext}

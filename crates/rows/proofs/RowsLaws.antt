@@ -13,8 +13,10 @@ use lib.Seq.{getD-append-add, getD-drop, getD-take, getD-set-other, set-set, set
 use Rattle.algebra.specs.Sums.{sumTo, sumTo-ext, sumTo-bound, sumTo-zeros, sumTo-append}
 use Rattle.numbers.specs.Words.{word, tabulate, over, AllBelow}
 use Rattle.numbers.proofs.WordsLaws.{lt-or-ge, length-tabulate, word-tabulate, tabulate-ext, tabulate-below, Writing, writing-part, over-whole, from, length-from, word-from}
+use Rattle.numbers.specs.Limits.{modulusBound, mostRows, largestWidth}
+use Rattle.numbers.proofs.RefusalsLaws.{few-words}
 use Rattle.series.specs.Series.{dotSum}
-use Rattle.series.proofs.SeriesLaws.{word-below}
+use Rattle.series.proofs.SeriesLaws.{word-below, sum-next}
 use Rattle.rows.specs.Rows.{rowsOf, table, mul, linePower, shifted}
 use Rattle.rows.specs.Passes.{passSum, weightSum, nextWeight}
 
@@ -38,8 +40,25 @@ rows-bound p s N rows j t pos b =
 pub row-fits : (j rows n : ℕ) → j < rows → j * n + n ≤ rows * n
 row-fits j rows n h = let l : (j + 1) * n ≤ rows * n = mul-le-mul {n₂ = rows} {m₂ = n} (omega arith) (omega arith) in omega arith
 
-pub rows-small : (rows n : ℕ) → rows ≤ 33 → n ≤ 256 → rows * n ≤ 8448
-rows-small rows n h g = let l : rows * n ≤ 33 * 256 = mul-le-mul {n₂ = 33} {m₂ = 256} h g in omega arith
+-- row j of so many rows in s, as a loop reaches it
+pub record RowIn (j n : ℕ) (s : List ℕ) : Type 0 where
+  pub start : j * n ≤ 8448
+  pub end : j * n + n ≤ 8448
+  pub front : j * n ≤ length s
+  pub within : j * n + n ≤ length s
+
+pub row-in : (j rows n : ℕ) (s : List ℕ) → j < rows → rows ≤ mostRows → n ≤ largestWidth → rows * n ≤ length s → RowIn j n s
+row-in j rows n s l h w e =
+    let a = row-fits j rows n l in
+    let b = few-words rows n h w in
+    record { start = omega arith; end = omega arith; front = omega arith; within = omega arith }
+
+-- a place is far below what a word of 64 bits holds
+pub far : {x : ℕ} → x ≤ 8448 → x < 18446744073709551616
+far h = omega arith
+
+pub far-words : {x : ℕ} → x ≤ 8448 → x * 4 < 18446744073709551616
+far-words h = omega arith
 
 -- tables
 pub table-none : (N : ℕ) (a : ℕ → ℕ → ℕ) → table 0 N a ≡ []
@@ -109,6 +128,18 @@ table-rows s rows N e = table-front s rows N e rows (omega arith) ∙ take-all (
 abbrev pub passTerm : (a b : ℕ → ℕ → ℕ) (j skip count i : ℕ) → ℕ
 passTerm a b j skip count i = sumTo count (λ s. a i (skip + s) * b (j - i) (skip + (count - (s + 1))))
 
+-- a pass along row i of s begins in column `skip`
+pub record PassAt (i n skip count : ℕ) (s : List ℕ) : Type 0 where
+  pub row : i * n ≤ 8448
+  pub place : i * n + skip ≤ 8448
+  pub within : i * n + skip ≤ length s
+  pub long : count ≤ length (from s (i * n + skip))
+
+pub pass-at : (i rows n skip count : ℕ) (s : List ℕ) → i < rows → rows ≤ mostRows → n ≤ largestWidth → skip + count ≤ n → length s ≡ rows * n → PassAt i n skip count s
+pass-at i rows n skip count s l h w f e =
+    let r = row-in i rows n s l h w (omega arith) in
+    record { row = r .start; place = omega arith; within = omega arith; long = omega (arith, length-from s (i * n + skip)) }
+
 module _ (f : List ℕ) (frows : ℕ) (g : List ℕ) (grows n j skip count : ℕ) where
   abbrev term : ℕ → ℕ
   term = passTerm (rowsOf f n frows) (rowsOf g n grows) j skip count
@@ -135,23 +166,30 @@ module _ (f : List ℕ) (frows : ℕ) (g : List ℕ) (grows n j skip count : ℕ
       (let r : sumTo i term ≡ sumTo (i + (j + 1 - i)) term = omega arith in r) ∙ ap (λ (x : ℕ). sumTo x term) q
 
   -- a pass along row i of f and row j − i of g
-  pub row-dot : (i : ℕ) → i < frows → j - i < grows → dotSum (from f (i * n + skip)) (from g ((j - i) * n + skip)) count ≡ term i
+  pub row-dot : (i : ℕ) {x : ℕ} → i < frows → j - i < grows → x ≡ dotSum (from f (i * n + skip)) (from g ((j - i) * n + skip)) count → x ≡ term i
   unfolding dotSum
-  row-dot i h l =
-      sumTo-ext count (λ s _.
+  row-dot i h l e =
+      e ∙ sumTo-ext count (λ s _.
       ap₂ _*_ (word-from f (i * n + skip) s ∙ ap (word f) (add-assoc (i * n) skip s) ∙ sym (rows-below f n frows i (skip + s) h))
       (word-from g ((j - i) * n + skip) (count - (s + 1)) ∙ ap (word g) (add-assoc ((j - i) * n) skip (count - (s + 1))) ∙ sym (rows-below g n grows (j - i) (skip + (count - (s + 1))) l)))
 
-  module _ (fb : AllBelow 16777216 f) (gb : AllBelow 16777216 g) (low : count ≤ 256) where
+  -- one pass more
+  pub pass-next : (i : ℕ) {sum x : ℕ} → sum ≡ sumTo i term → x ≡ term i → sum + x ≡ sumTo (i + 1) term
+  pass-next i e g = ap₂ _+_ e g ∙ sym (sum-next i term)
+
+  module _ (fb : AllBelow modulusBound f) (gb : AllBelow modulusBound g) (low : count ≤ largestWidth) where
     pass-bound : (i : ℕ) → term i ≤ 256 * (16777215 * 16777215)
     pass-bound i =
         let l = sumTo-bound count (16777215 * 16777215) (λ s. rowsOf f n frows i (skip + s) * rowsOf g n grows (j - i) (skip + (count - (s + 1)))) (λ s _.
-        mul-le-mul {n₂ = 16777215} {m₂ = 16777215} (omega (arith, rows-bound 16777216 f n frows i (skip + s) (omega arith) fb))
-        (omega (arith, rows-bound 16777216 g n grows (j - i) (skip + (count - (s + 1))) (omega arith) gb))) in
+        mul-le-mul {n₂ = 16777215} {m₂ = 16777215} (omega (arith, rows-bound modulusBound f n frows i (skip + s) (omega arith) fb))
+        (omega (arith, rows-bound modulusBound g n grows (j - i) (skip + (count - (s + 1))) (omega arith) gb))) in
         omega arith
 
     pub passes-bound : (i : ℕ) → sumTo i term ≤ i * (256 * (16777215 * 16777215))
     passes-bound i = sumTo-bound i (256 * (16777215 * 16777215)) term (λ k _. pass-bound k)
+
+    pub pass-fits : (i : ℕ) {sum x : ℕ} → i < mostRows → sum ≡ sumTo i term → x ≡ term i → sum + x < 18446744073709551616
+    pass-fits i l e g = omega (arith, passes-bound (i + 1), sum-next i term)
 
 -- passes along t + 1 columns give column t of the product
 pub pass-column : (p : ℕ) (a b : ℕ → ℕ → ℕ) (j t : ℕ) → passSum a b j 0 (t + 1) % p ≡ mul p a b j t
@@ -234,11 +272,11 @@ pub weight-is : (f : List ℕ) (n : ℕ) (weights : List ℕ) (t : ℕ) → sumT
 unfolding weightSum
 weight-is f n weights t = refl
 
-module _ (f : List ℕ) (n : ℕ) (weights : List ℕ) (t : ℕ) (fb : AllBelow 16777216 f) (wb : AllBelow 16777216 weights) where
+module _ (f : List ℕ) (n : ℕ) (weights : List ℕ) (t : ℕ) (fb : AllBelow modulusBound f) (wb : AllBelow modulusBound weights) where
   pub weight-bound : (i : ℕ) → weightTerm f n weights t i ≤ 16777215 * 16777215
   weight-bound i =
-      mul-le-mul {n₂ = 16777215} {m₂ = 16777215} (omega (arith, word-below 16777216 f (omega arith) fb (i * n + t)))
-      (omega (arith, word-below 16777216 weights (omega arith) wb i))
+      mul-le-mul {n₂ = 16777215} {m₂ = 16777215} (omega (arith, word-below modulusBound f (omega arith) fb (i * n + t)))
+      (omega (arith, word-below modulusBound weights (omega arith) wb i))
 
   pub weights-bound : (i : ℕ) → sumTo i (weightTerm f n weights t) ≤ i * (16777215 * 16777215)
   weights-bound i = sumTo-bound i (16777215 * 16777215) (weightTerm f n weights t) (λ k _. weight-bound k)

@@ -60,6 +60,10 @@ module _ (p : ℕ) (pos : 1 ≤ p) where
   pub line-power : (c m : ℕ) → (λ j. rem p pos (linePower p c m j)) ≡ linPow (Fp p pos) (Fp p pos .neg (rem p pos c)) m
   line-power c m = fun-ext (line-at c m)
 
+  -- and so the powers of Y − c
+  pub root-power : (c : ℕ) → c < p → (m : ℕ) → (λ j. rem p pos (linePower p (p - c) m j)) ≡ linPow (Fp p pos) (rem p pos c) m
+  root-power c h m = line-power (p - c) m ∙ ap (λ x. linPow (Fp p pos) x m) (ap (Fp p pos .neg) (sym (neg-rem p pos c h)) ∙ neg-neg (Fp p pos) (rem p pos c))
+
   -- over the numbers below p each column is shifted by c
   pub shift-rem : (rows c : ℕ) (f : ℕ → ℕ → ℕ) → col p pos (shifted p rows c f) ≡ shiftColumns (Fp p pos) (rem p pos c) rows (col p pos f)
   unfolding shifted
@@ -142,7 +146,7 @@ shift-product-rows p D₁ D₂ N f g c pos j t v =
     ∙ shift-product p pos (D₁ + 1) (D₂ + 1) c (rowsOf f N (D₁ + 1)) (rowsOf g N (D₂ + 1)) (λ i s. rows-past f N (D₁ + 1) i s) (λ i s. rows-past g N (D₂ + 1) i s) j t
     ∙ mul-ext p _ _ _ _ j t (λ i s _ w. sym (shift-rows p D₁ N f c i s (omega arith))) (λ i s _ w. sym (shift-rows p D₂ N g c i s (omega arith)))
 
--- the shift of what `rows::multiply` writes is the product of the shifts
+-- the shift of what `rows::product` writes is the product of the shifts
 pub row-shift-product : (p D₁ D₂ N : ℕ) (f g : List ℕ) (c : ℕ) → 1 ≤ p
     → rowShift p (D₁ + D₂) N (rowProduct p D₁ D₂ N f g) c ≡ rowProduct p D₁ D₂ N (rowShift p D₁ N f c) (rowShift p D₂ N g c)
 unfolding rowShift rowProduct

@@ -2,7 +2,7 @@
 --   rowsOf s N rows j t        row j, column t of the polynomial whose rows stand in s; 0 from row `rows` on
 --   table rows N a             the words of rows 0..rows − 1 of a, N columns each
 --   rowsChecks ..              the checks of sum and difference
---   multiplyChecks ..          of the product
+--   productChecks ..          of the product
 --   shiftChecks ..             of the shift: its number c stands after the coefficients
 --   mul p a b j t              the coefficient of Y^j X^t of a · b: the sum over i = 0..j of row i of a times row j − i of b
 --   rowProduct ..              the words of the product
@@ -11,13 +11,15 @@
 --   rowShift ..                the words of the shift
 --   unit t                     the series 1, 0, 0, ..
 --   monic d a                  Y^d and the rows of a below d
+--   rowsBelow q s N rows from to   columns from..to − 1 of the rows are below q
 -- Sums and differences are those of `series`, word by word.
 -- Assumes nothing.
 use Prim.Native.Nat.{ℕ, zero, suc, _+_, _-_, _*_, _%_}
+use mathlib.Core.Bool.{Bool}
 use mathlib.Core.List.{List, [], _∷_, _++_}
 use lib.Dec.{leb, ltb, eqb}
 use Rattle.algebra.specs.Sums.{sumTo}
-use Rattle.numbers.specs.Words.{word, choose, tabulate}
+use Rattle.numbers.specs.Words.{word, choose, allTo, tabulate}
 use Rattle.numbers.specs.Refusals.{Check, check, inputChecks, operationChecks}
 
 unfoldable pub rowsOf : List ℕ → (N rows : ℕ) → ℕ → ℕ → ℕ
@@ -30,8 +32,8 @@ table (suc j) N a = table j N a ++ tabulate N (a j)
 abbrev pub rowsChecks : (p D N : ℕ) (f g : List ℕ) (room : ℕ) → List Check
 rowsChecks p D N f g room = operationChecks p N f (D + 1) g (D + 1) (D + 1) room
 
-abbrev pub multiplyChecks : (p D₁ D₂ N : ℕ) (f g : List ℕ) (room : ℕ) → List Check
-multiplyChecks p D₁ D₂ N f g room = operationChecks p N f (D₁ + 1) g (D₂ + 1) (D₁ + D₂ + 1) room
+abbrev pub productChecks : (p D₁ D₂ N : ℕ) (f g : List ℕ) (room : ℕ) → List Check
+productChecks p D₁ D₂ N f g room = operationChecks p N f (D₁ + 1) g (D₂ + 1) (D₁ + D₂ + 1) room
 
 abbrev pub shiftChecks : (p D N : ℕ) (f : List ℕ) (c room : ℕ) → List Check
 shiftChecks p D N f c room =
@@ -65,3 +67,6 @@ unit (suc t) = 0
 
 unfoldable pub monic : ℕ → (ℕ → ℕ → ℕ) → ℕ → ℕ → ℕ
 monic d a j t = choose (ltb j d) (a j t) (choose (eqb j d) (unit t) 0)
+
+unfoldable pub rowsBelow : (q : ℕ) (s : List ℕ) (N rows from to : ℕ) → Bool
+rowsBelow q s N rows from to = allTo rows (λ j. allTo (to - from) (λ t. ltb (word s (j * N + (from + t))) q))

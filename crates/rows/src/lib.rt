@@ -3,15 +3,15 @@
 use numbers::judge::check_inputs;
 use numbers::judge::check_operation;
 use numbers::refusal::Answer;
-use numbers::refusal::Refusal;
 use numbers::refusal::Verdict;
+use numbers::refusal::refused;
 ghost use mathlib.Core.Path.{_≡_};
 ghost use Prim.Native.Nat.{_+_, _*_};
 ghost use lib.ListN.{length};
 ghost use Rattle.numbers.specs.Words.{over};
 ghost use Rattle.numbers.specs.Refusals.{judge, outcome, result, written};
 ghost use Rattle.series.specs.Series.{sums, differences};
-ghost use Rattle.rows.specs.Rows.{rowsChecks, multiplyChecks, shiftChecks, rowProduct, rowShift};
+ghost use Rattle.rows.specs.Rows.{rowsChecks, productChecks, shiftChecks, rowProduct, rowShift};
 
 pub mod kernel; // the loops, for callers that have judged
 
@@ -44,9 +44,9 @@ pub fn difference(p: u32, d: u32, n: u32, f: &[u32], g: &[u32], out: &mut [u32])
 }
 
 // f · g, f of degree bound d and g of degree bound e.
-pub fn multiply(p: u32, d: u32, e: u32, n: u32, f: &[u32], g: &[u32], out: &mut [u32]) -> Answer
-    ensures answer { λ r. ⌜ outcome r ≡ result (judge (multiplyChecks p d e n (now (f .entry)) (now (g .entry)) (length (now (out .entry))))) ((d + e + 1) * n) ⌝ }
-    ensures words { λ _. ⌜ now (out .exit) ≡ written (judge (multiplyChecks p d e n (now (f .entry)) (now (g .entry)) (length (now (out .entry)))))
+pub fn product(p: u32, d: u32, e: u32, n: u32, f: &[u32], g: &[u32], out: &mut [u32]) -> Answer
+    ensures answer { λ r. ⌜ outcome r ≡ result (judge (productChecks p d e n (now (f .entry)) (now (g .entry)) (length (now (out .entry))))) ((d + e + 1) * n) ⌝ }
+    ensures words { λ _. ⌜ now (out .exit) ≡ written (judge (productChecks p d e n (now (f .entry)) (now (g .entry)) (length (now (out .entry)))))
         (over (rowProduct p d e n (now (f .entry)) (now (g .entry))) (now (out .entry))) (now (out .entry)) ⌝ }
 {
     let frows = d as usize + 1;
@@ -71,16 +71,10 @@ pub fn shift(p: u32, d: u32, n: u32, f: &[u32], c: u32, out: &mut [u32]) -> Answ
     }
     let words = (d + 1) * n;
     if p <= c {
-        return Answer::Refused(Refusal {
-            number: 6,
-            detail: words,
-        });
+        return refused(6, words);
     }
     if out.len() < words as usize {
-        return Answer::Refused(Refusal {
-            number: 10,
-            detail: words,
-        });
+        return refused(10, words);
     }
     kernel::shift(p, c, f, rows, n as usize, out);
     Answer::Done(words)

@@ -1,32 +1,46 @@
--- What a pass says of two series, and row 12: a divisor begins with a word that is not 0.
+-- What a pass says of two series, refusal 12, a divisor that begins with 0, and the answers that follow.
 -- Assumes nothing.
-use mathlib.Core.Path.{_≡_, _∙_}
+use mathlib.Core.Path.{_≡_, sym, _∙_}
 use mathlib.Core.List.{List, [], _∷_, _++_}
 use Prim.Native.Nat.{ℕ, zero, suc, _≤_, _<_}
 use native.Mathlib.Omega.{arith}
 use borrow.Author.Tests.{eq-eqb, ne-eqb}
 use lib.Dec.{eqb}
 use lib.ListN.{length}
-use Rattle.numbers.specs.Words.{word, AllBelow}
-use Rattle.numbers.specs.Refusals.{Check, check, judge, refusal}
+use Rattle.numbers.specs.Words.{word, over, AllBelow}
+use Rattle.numbers.specs.Refusals.{Check, check, judge, refusal, Outcome, accepted, outcome, result, written}
+use Rattle.numbers.specs.declared.refusal.Refusal.{Refusal}
+use Rattle.numbers.specs.declared.refusal.Verdict.{Verdict}
 use Rattle.numbers.specs.declared.refusal.Verdict.the-variants.{Pass, Refuse}
-use Rattle.numbers.proofs.RefusalsLaws.{after-pass, take-check, skip-check, none-judged, operation-pass}
+use Rattle.numbers.specs.declared.refusal.Answer.{Answer}
+use Rattle.numbers.specs.declared.refusal.Answer.the-variants.{Refused}
+use Rattle.numbers.proofs.RefusalsLaws.{after-pass, after-refuse, take-check, skip-check, none-judged, operation-pass, answer-refused, answer-done}
+use Rattle.numbers.specs.Limits.{modulusBound, largestWidth}
 use Rattle.series.specs.Series.{seriesChecks}
+
+-- where a call made the refusal
+pub answer-told : {v : Verdict} (a : Answer) (r : Refusal) (n : ℕ) (new old : List ℕ) → a ≡ Refused r → v ≡ Refuse r → (outcome a ≡ result v n) × (old ≡ written v new old)
+answer-told a r n new old w e = rw w (answer-refused r n new old e)
+
+pub after-told : (cs ds : List Check) (v : Verdict) (r : Refusal) → v ≡ judge cs → v ≡ Refuse r → judge (cs ++ ds) ≡ Refuse r
+after-told cs ds v r e q = after-refuse cs ds r (sym e ∙ q)
 
 -- what a pass says of two series, as the kernels require it
 module _ (p N : ℕ) (g h : List ℕ) (room : ℕ) (e : judge (seriesChecks p N g h room) ≡ Pass) where
-  pub series-ready : (1 ≤ p) × (p < 16777216) × (length h ≡ length g) × (length g ≤ room) × AllBelow p g × AllBelow p h
+  pub series-ready : (1 ≤ p) × (p < modulusBound) × (length h ≡ length g) × (length g ≤ room) × AllBelow p g × AllBelow p h
   series-ready =
       let o = operation-pass p N g 1 h 1 1 room e in
       (omega arith, omega arith, omega arith, omega arith, o .inputs .f-below, o .inputs .g-below)
 
-  pub series-long : length g ≡ N
-  series-long = let o = operation-pass p N g 1 h 1 1 room e in omega arith
+  pub series-long : (length g ≡ N) × (length g ≤ largestWidth)
+  series-long = let o = operation-pass p N g 1 h 1 1 room e in (omega arith, omega arith)
 
-  pub series-short : length g ≤ 256
-  series-short = let o = operation-pass p N g 1 h 1 1 room e in omega arith
+  -- the answer, where a kernel wrote as many words as g has
+  pub series-done : (F : ℕ → List ℕ) (old out : List ℕ) → out ≡ over (F (length g)) old
+      → (_≡_ {A = Outcome ℕ} (accepted N) (result (judge (seriesChecks p N g h room)) N)) × (out ≡ written (judge (seriesChecks p N g h room)) (over (F N) old) old)
+  series-done F old out w = answer-done F (length g) N N old out e w (series-long .0)
 
--- row 12, after checks that pass
+-- refusal 12, after checks that pass
 module _ (cs : List Check) (g : List ℕ) (e : judge cs ≡ Pass) where
   abbrev row : Check
   row = check 12 (eqb (word g 0) 0) 0

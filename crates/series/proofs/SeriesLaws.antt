@@ -13,6 +13,7 @@ use Rattle.algebra.specs.Sums.{sumTo, sumTo-suc, sumTo-ext, sumTo-bound}
 use Rattle.numbers.specs.Words.{word, AllBelow}
 use Rattle.numbers.specs.Divisor.{inverseOf}
 use Rattle.numbers.proofs.WordsLaws.{lt-or-ge, tabulate-below, Writing, writing-store, writing-take, from, from-is}
+use Rattle.numbers.specs.Limits.{modulusBound}
 use Rattle.series.specs.Series.{sums, differences, productColumn, product, quotientColumn, quotient, dotSum}
 
 -- what a sum gains with one summand more
@@ -27,11 +28,11 @@ word-below p s pos b k = ⊎-elim (b k) (λ (h : length s ≤ k). rw (List·getD
 abbrev pub dotTerm : (g h : List ℕ) (k i : ℕ) → ℕ
 dotTerm g h k i = word g i * word h (k - 1 - i)
 
-module _ (g h : List ℕ) (k : ℕ) (gb : AllBelow 16777216 g) (hb : AllBelow 16777216 h) where
+module _ (g h : List ℕ) (k : ℕ) (gb : AllBelow modulusBound g) (hb : AllBelow modulusBound h) where
   pub term-bound : (i : ℕ) → dotTerm g h k i ≤ 16777215 * 16777215
   term-bound i =
-      mul-le-mul {n₂ = 16777215} {m₂ = 16777215} (omega (arith, word-below 16777216 g (omega arith) gb i))
-      (omega (arith, word-below 16777216 h (omega arith) hb (k - 1 - i)))
+      mul-le-mul {n₂ = 16777215} {m₂ = 16777215} (omega (arith, word-below modulusBound g (omega arith) gb i))
+      (omega (arith, word-below modulusBound h (omega arith) hb (k - 1 - i)))
 
   pub dot-bound : (i : ℕ) → sumTo i (dotTerm g h k) ≤ i * (16777215 * 16777215)
   dot-bound i = sumTo-bound i (16777215 * 16777215) (dotTerm g h k) (λ j _. term-bound j)
@@ -77,10 +78,6 @@ quotient-suc p t f g = refl
 -- the same as a loop counts
 pub quotient-next : (p t : ℕ) (f g : List ℕ) → quotient p (t + 1) f g ≡ quotient p t f g ++ (quotientColumn p f g (quotient p t f g) t ∷ [])
 quotient-next p t f g = ap (λ (k : ℕ). quotient p k f g) (add-one t) ∙ quotient-suc p t f g
-
-pub quotient-none : (p : ℕ) (f g : List ℕ) → quotient p 0 f g ≡ []
-unfolding quotient
-quotient-none p f g = refl
 
 pub length-quotient : (p n : ℕ) (f g : List ℕ) → length (quotient p n f g) ≡ n
 unfolding quotient

@@ -6,11 +6,12 @@ ghost use Prim.Native.Nat.{ℕ, _≤_, _<_};
 ghost use lib.ListN.{length};
 ghost use Rattle.algebra.specs.Fp.{Prime};
 ghost use Rattle.numbers.specs.Words.{word, over, AllBelow};
+ghost use Rattle.numbers.specs.Limits.{modulusBound, largestWidth};
 ghost use Rattle.series.specs.Series.{sums, differences, product, quotient, dotSum};
 
 // One pass along two rows, the second backwards, not yet reduced: at most 256 products below 2^48.
 pub fn dot(g: &[u32], h: &[u32], k: usize) -> u64
-    requires { ⌜ (k ≤ length (now g)) × (k ≤ length (now h)) × (k ≤ 256) × AllBelow 16777216 (now g) × AllBelow 16777216 (now h) ⌝ }
+    requires { ⌜ (k ≤ length (now g)) × (k ≤ length (now h)) × (k ≤ largestWidth) × AllBelow modulusBound (now g) × AllBelow modulusBound (now h) ⌝ }
     ensures { λ r. ⌜ r ≡ dotSum (now (g .entry)) (now (h .entry)) k ⌝ }
 {
     let mut sum: u64 = 0;
@@ -34,7 +35,7 @@ fn word_or_zero(s: &[u32], t: usize) -> u32
 
 // g + h, as many words as g has.
 pub fn add(p: u32, g: &[u32], h: &[u32], out: &mut [u32])
-    requires { ⌜ (1 ≤ p) × (p < 16777216) × (length (now h) ≡ length (now g)) × (length (now g) ≤ length (now out)) × AllBelow p (now g) × AllBelow p (now h) ⌝ }
+    requires { ⌜ (1 ≤ p) × (p < modulusBound) × (length (now h) ≡ length (now g)) × (length (now g) ≤ length (now out)) × AllBelow p (now g) × AllBelow p (now h) ⌝ }
     ensures { λ _. ⌜ now (out .exit) ≡ over (sums p (length (now (g .entry))) (now (g .entry)) (now (h .entry))) (now (out .entry)) ⌝ }
 {
     let n = g.len();
@@ -47,7 +48,7 @@ pub fn add(p: u32, g: &[u32], h: &[u32], out: &mut [u32])
 
 // g − h, as many words as g has.
 pub fn subtract(p: u32, g: &[u32], h: &[u32], out: &mut [u32])
-    requires { ⌜ (1 ≤ p) × (p < 16777216) × (length (now h) ≡ length (now g)) × (length (now g) ≤ length (now out)) × AllBelow p (now g) × AllBelow p (now h) ⌝ }
+    requires { ⌜ (1 ≤ p) × (p < modulusBound) × (length (now h) ≡ length (now g)) × (length (now g) ≤ length (now out)) × AllBelow p (now g) × AllBelow p (now h) ⌝ }
     ensures { λ _. ⌜ now (out .exit) ≡ over (differences p (length (now (g .entry))) (now (g .entry)) (now (h .entry))) (now (out .entry)) ⌝ }
 {
     let n = g.len();
@@ -60,7 +61,7 @@ pub fn subtract(p: u32, g: &[u32], h: &[u32], out: &mut [u32])
 
 // g · h, as many columns as g has.
 pub fn multiply(p: u32, g: &[u32], h: &[u32], out: &mut [u32])
-    requires { ⌜ (1 ≤ p) × (p < 16777216) × (length (now g) ≤ 256) × (length (now h) ≡ length (now g)) × (length (now g) ≤ length (now out))
+    requires { ⌜ (1 ≤ p) × (p < modulusBound) × (length (now g) ≤ largestWidth) × (length (now h) ≡ length (now g)) × (length (now g) ≤ length (now out))
         × AllBelow p (now g) × AllBelow p (now h) ⌝ }
     ensures { λ _. ⌜ now (out .exit) ≡ over (product p (length (now (g .entry))) (now (g .entry)) (now (h .entry))) (now (out .entry)) ⌝ }
 {
@@ -76,7 +77,7 @@ pub fn multiply(p: u32, g: &[u32], h: &[u32], out: &mut [u32])
 
 // f / g, as many columns as g has; g's first word is not 0. Each column is made of those before it.
 pub fn divide(p: u32, f: &[u32], g: &[u32], out: &mut [u32])
-    requires { ⌜ Prime p × (p < 16777216) × (1 ≤ length (now g)) × (length (now g) ≤ 256) × (length (now g) ≤ length (now out))
+    requires { ⌜ Prime p × (p < modulusBound) × (1 ≤ length (now g)) × (length (now g) ≤ largestWidth) × (length (now g) ≤ length (now out))
         × AllBelow p (now f) × AllBelow p (now g) × (1 ≤ word (now g) 0) ⌝ }
     ensures { λ _. ⌜ now (out .exit) ≡ over (quotient p (length (now (g .entry))) (now (f .entry)) (now (g .entry))) (now (out .entry)) ⌝ }
 {

@@ -2,11 +2,10 @@
 // that it writes to the front of `out` or by a refusal, and then `out` is as it was.
 use numbers::judge::check_operation;
 use numbers::refusal::Answer;
-use numbers::refusal::Refusal;
 use numbers::refusal::Verdict;
+use numbers::refusal::refused;
 ghost use mathlib.Core.Path.{_≡_};
 ghost use mathlib.Core.List.{[], _∷_};
-ghost use Prim.Native.Nat.{ℕ};
 ghost use lib.ListN.{length};
 ghost use Rattle.numbers.specs.Words.{over};
 ghost use Rattle.numbers.specs.Refusals.{judge, outcome, result, written};
@@ -41,7 +40,7 @@ pub fn difference(p: u32, n: u32, g: &[u32], h: &[u32], out: &mut [u32]) -> Answ
 }
 
 // g · h.
-pub fn multiply(p: u32, n: u32, g: &[u32], h: &[u32], out: &mut [u32]) -> Answer
+pub fn product(p: u32, n: u32, g: &[u32], h: &[u32], out: &mut [u32]) -> Answer
     ensures answer { λ r. ⌜ outcome r ≡ result (judge (seriesChecks p n (now (g .entry)) (now (h .entry)) (length (now (out .entry))))) n ⌝ }
     ensures words { λ _. ⌜ now (out .exit) ≡ written (judge (seriesChecks p n (now (g .entry)) (now (h .entry)) (length (now (out .entry)))))
         (over (product p n (now (g .entry)) (now (h .entry))) (now (out .entry))) (now (out .entry)) ⌝ }
@@ -54,7 +53,7 @@ pub fn multiply(p: u32, n: u32, g: &[u32], h: &[u32], out: &mut [u32]) -> Answer
 }
 
 // f / g.
-pub fn divide(p: u32, n: u32, f: &[u32], g: &[u32], out: &mut [u32]) -> Answer
+pub fn quotient(p: u32, n: u32, f: &[u32], g: &[u32], out: &mut [u32]) -> Answer
     ensures answer { λ r. ⌜ outcome r ≡ result (judge (quotientChecks p n (now (f .entry)) (now (g .entry)) (length (now (out .entry))))) n ⌝ }
     ensures words { λ _. ⌜ now (out .exit) ≡ written (judge (quotientChecks p n (now (f .entry)) (now (g .entry)) (length (now (out .entry)))))
         (over (quotient p n (now (f .entry)) (now (g .entry))) (now (out .entry))) (now (out .entry)) ⌝ }
@@ -63,17 +62,14 @@ pub fn divide(p: u32, n: u32, f: &[u32], g: &[u32], out: &mut [u32]) -> Answer
         return Answer::Refused(r);
     }
     if g[0] == 0 {
-        return Answer::Refused(Refusal {
-            number: 12,
-            detail: 0,
-        });
+        return refused(12, 0);
     }
     kernel::divide(p, f, g, out);
     Answer::Done(n)
 }
 
 // 1 / g.
-pub fn invert(p: u32, n: u32, g: &[u32], out: &mut [u32]) -> Answer
+pub fn inverse(p: u32, n: u32, g: &[u32], out: &mut [u32]) -> Answer
     ensures answer { λ r. ⌜ outcome r ≡ result (judge (inverseChecks p n (now (g .entry)) (length (now (out .entry))))) n ⌝ }
     ensures words { λ _. ⌜ now (out .exit) ≡ written (judge (inverseChecks p n (now (g .entry)) (length (now (out .entry)))))
         (over (quotient p n (1 ∷ []) (now (g .entry))) (now (out .entry))) (now (out .entry)) ⌝ }
@@ -82,10 +78,7 @@ pub fn invert(p: u32, n: u32, g: &[u32], out: &mut [u32]) -> Answer
         return Answer::Refused(r);
     }
     if g[0] == 0 {
-        return Answer::Refused(Refusal {
-            number: 12,
-            detail: 0,
-        });
+        return refused(12, 0);
     }
     kernel::divide(p, &[1], g, out);
     Answer::Done(n)

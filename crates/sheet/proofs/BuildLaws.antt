@@ -15,13 +15,14 @@ use lib.Dec.{ltb}
 use Rattle.algebra.specs.Sums.{sumTo, sumTo-suc, sumTo-mono}
 use Rattle.algebra.specs.Fp.{Prime}
 use Rattle.numbers.specs.Words.{choose, firstWhere}
-use Rattle.numbers.specs.Refusals.{largestModulus}
+use Rattle.numbers.specs.Refusals.{}
 use Rattle.numbers.proofs.WordsLaws.{first-is}
+use Rattle.numbers.specs.Limits.{largestModulus, largestDegree, largestWidth}
 use Rattle.rows.specs.Rows.{linePower, unit, monic}
 use Rattle.rows.proofs.RowsLaws.{line-lt, line-zero}
 use Rattle.rows.proofs.MonicLaws.{monic-low, monic-top, monic-above, by-place}
-use Rattle.split.specs.Factors.{rootPower, flat, product, IsFactors}
-use Rattle.split.proofs.FactorsLaws.{product-ext, factors-ext}
+use Rattle.hensel.specs.Factors.{rootPower, flat, product, IsFactors}
+use Rattle.hensel.proofs.FactorsLaws.{product-ext, factors-ext}
 use Rattle.sheet.proofs.ExistsLaws.{Splits, factors-splits, solution, solution-lt, solution-is}
 use Rattle.sheet.proofs.ContentLaws.{Content}
 use Rattle.sheet.proofs.SheetsLaws.{factorOf, Good}
@@ -74,9 +75,9 @@ pub record Ready (p D N r : ℕ) (root power : ℕ → ℕ) (f : ℕ → ℕ →
   pub prime : Prime p
   pub small : p ≤ largestModulus
   pub degree-low : 1 ≤ D
-  pub degree-high : D ≤ 32
+  pub degree-high : D ≤ largestDegree
   pub width-low : 1 ≤ N
-  pub width-high : N ≤ 256
+  pub width-high : N ≤ largestWidth
   pub reduced : (j : ℕ) → j ≤ D → (t : ℕ) → t < N → f j t < p
   pub top : (t : ℕ) → t < N → f D t ≡ unit t
   pub splits : Splits p D r f root power

@@ -16,8 +16,8 @@ use lib.Seq.{getD-append-add}
 use Rattle.numbers.specs.Words.{word}
 use Rattle.rows.specs.Rows.{table}
 use Rattle.rows.proofs.RowsLaws.{length-table, word-table, table-ext}
-use Rattle.sheet.specs.Layout.{modulus, degree, width, terms, count, rootsFrom, polynomialFrom, factorsFrom, total, root, power, polynomial, factorRows}
-use Rattle.sheet.proofs.RegionsLaws.{in-rows}
+use Rattle.layout.specs.Layout.{modulus, degree, width, terms, count, rootsFrom, polynomialFrom, factorsFrom, total, root, power, polynomial, factorRows}
+use Rattle.layout.proofs.RegionsLaws.{in-rows}
 
 pub record Content : Type 0 where
   pub p : ℕ

@@ -19,12 +19,12 @@ use Rattle.algebra.specs.Columns.{Columns}
 use Rattle.algebra.specs.Chain.{Monic, Lifted, at-zero, at-zero-below, chain-exists, roots-unique, rising-distinct, factor-monic}
 use Rattle.algebra.specs.Fp.{Prime, Fp, p-pos, Fp-field, rem, rem-val, val-unique}
 use Rattle.algebra.specs.Bridge.{col, same-rem, rem-zero, rem-one}
+use Rattle.rows.proofs.ShiftLaws.{root-power}
 use Rattle.rows.proofs.RowsLaws.{line-lt}
 use Rattle.rows.specs.Rows.{unit, monic}
 use Rattle.rows.proofs.MonicLaws.{monic-low, monic-top, monic-above, by-place}
-use Rattle.columns.proofs.SolveLaws.{line-power}
-use Rattle.split.specs.Factors.{rootPower, flat, product, split, IsFactors}
-use Rattle.split.proofs.FactorsLaws.{product-rem, product-lt, monic-rem, factors-unique, rootsOf, key, roots-rising}
+use Rattle.hensel.specs.Factors.{rootPower, flat, product, split, IsFactors}
+use Rattle.hensel.proofs.FactorsLaws.{product-rem, product-lt, monic-rem, factors-unique, rootsOf, key, roots-rising}
 
 pub record Splits (p D r : ℕ) (f : ℕ → ℕ → ℕ) (root power : ℕ → ℕ) : Type 0 where
   pub rising : (i : ℕ) → suc i < r → root i < root (suc i)
@@ -50,7 +50,7 @@ module _ {p : ℕ} (prime : Prime p) where
   pub split-rem : (r : ℕ) (root power : ℕ → ℕ) → ((i : ℕ) → i < r → root i < p) → (λ (j : ℕ). q (split p r root power j)) ≡ at-zero K r (rootsOf prime root) power
   split-rem r root power h =
       ap (λ x. x zero) (product-rem p pos r (λ i. flat (rootPower p (root i) (power i)))) ∙ prod-at-zero (Series K) r (λ i. col p pos (flat (rootPower p (root i) (power i))))
-      ∙ prod-ext (Series K) r (λ i l. line-power p pos (root i) (h i l) (power i))
+      ∙ prod-ext (Series K) r (λ i l. root-power p pos (root i) (h i l) (power i))
 
   -- so roots and powers that split f give its column 0
   module _ (D r : ℕ) (f : ℕ → ℕ → ℕ) (root power : ℕ → ℕ) (h : Splits p D r f root power) where
@@ -127,7 +127,7 @@ module _ {p : ℕ} (prime : Prime p) where
       degree = h .degree;
       splits = h .splits;
       first = λ i l j g.
-          ap (λ x. x j .0) (lifted .chain .first i l ∙ sym (line-power p pos (root i) (h .reduced i l) (power i))) ∙ mod-eq-of-lt (line-lt p (p - root i) (power i) j (prime .two-le));
+          ap (λ x. x j .0) (lifted .chain .first i l ∙ sym (root-power p pos (root i) (h .reduced i l) (power i))) ∙ mod-eq-of-lt (line-lt p (p - root i) (power i) j (prime .two-le));
       same = λ j l t g.
           same-rem p pos (product-lt p r _ (prime .two-le) j t) (low j l t (omega arith))
           (ap (λ x. x t j) (product-rem p pos r (λ i. monic (power i) (solution i)) ∙ prod-ext (Columns K) r solution-rows ∙ lifted .product) ∙ ap q (F-row j t l (omega arith)));

@@ -9,9 +9,9 @@ use mathlib.Core.Logic.{_≢_}
 use mathlib.Core.List.{List}
 use lib.ListN.{length}
 use Rattle.numbers.specs.Words.{word}
-use Rattle.sheet.specs.Layout.{degree, width, terms, count, factorsFrom, end}
+use Rattle.layout.specs.Layout.{degree, width, terms, count, factorsFrom, end, polynomialFrom}
 use Rattle.sheet.specs.Sheet.{Sound, Given, Holds}
-use Rattle.sheet.proofs.RegionsLaws.{in-rows}
+use Rattle.layout.proofs.RegionsLaws.{in-rows}
 use Rattle.sheet.proofs.SheetsLaws.{sound-ext}
 
 -- what a sheet holds is read before the factors, but for the terms
@@ -28,7 +28,7 @@ holds-by g k w u s h sound e same =
       same-count = er ∙ h .same-count;
       same-roots = λ i l. same _ (omega arith) (omega arith) ∙ h .same-roots i (omega arith);
       same-polynomial = λ j l t v.
-          ap₂ (λ r n. word s (10 + 2 * r + j * n + t)) er eN
+          ap₂ (λ r n. word s (polynomialFrom r + j * n + t)) er eN
           ∙ same _ (omega (arith, in-rows (degree u + 1) (width u) j t (omega arith) (omega arith))) (omega arith) ∙ h .same-polynomial j (omega arith) t (omega arith);
       same-terms = e;
     }

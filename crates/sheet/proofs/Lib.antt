@@ -1,11 +1,9 @@
 pub mod SoundTestLaws
 pub mod ExistsLaws
-pub mod RegionsLaws
 pub mod ContentLaws
 pub mod SheetsLaws
 pub mod UniqueLaws
 pub mod BuildLaws
-pub mod StagesLaws
 pub mod WorkLaws
 pub mod SoundStagesLaws
 pub mod ReadingLaws

@@ -16,14 +16,15 @@ use lib.Seq.{ext-getD, getD-take, length-take-le}
 use Rattle.algebra.specs.Sums.{sumTo, sumTo-ext}
 use Rattle.algebra.specs.Fp.{Prime}
 use Rattle.numbers.specs.Words.{word}
-use Rattle.numbers.specs.Refusals.{largestModulus}
+use Rattle.numbers.specs.Refusals.{}
+use Rattle.numbers.specs.Limits.{largestModulus, largestDegree, largestWidth}
 use Rattle.rows.specs.Rows.{unit}
-use Rattle.split.specs.Factors.{IsFactors}
-use Rattle.sheet.specs.Layout.{modulus, degree, width, terms, count, rootsFrom, polynomialFrom, factorsFrom, root, power, end, polynomial}
+use Rattle.hensel.specs.Factors.{IsFactors}
+use Rattle.layout.specs.Layout.{modulus, degree, width, terms, count, rootsFrom, polynomialFrom, factorsFrom, root, power, end, polynomial}
 use Rattle.sheet.specs.Sheet.{Sound}
-use Rattle.split.proofs.FactorsLaws.{factors-ext}
-use Rattle.sheet.proofs.RegionsLaws.{in-rows, by-region}
-use Rattle.split.proofs.BlocksLaws.{in-block}
+use Rattle.hensel.proofs.FactorsLaws.{factors-ext}
+use Rattle.layout.proofs.RegionsLaws.{in-rows, by-region}
+use Rattle.hensel.proofs.BlocksLaws.{in-block}
 use Rattle.sheet.proofs.ContentLaws.{Content, contentOf, size, headerWords, sheetWords, word-header, word-root, word-power, word-polynomial, word-factors, length-sheet, SameContent, same-size}
 
 -- the rows of factor i
@@ -34,8 +35,8 @@ pub record Good (c : Content) : Type 0 where
   pub prime : Prime (c .p)
   pub small : c .p ≤ largestModulus
   pub degree-low : 1 ≤ c .D
-  pub degree-high : c .D ≤ 32
-  pub width-high : c .N ≤ 256
+  pub degree-high : c .D ≤ largestDegree
+  pub width-high : c .N ≤ largestWidth
   pub terms-low : 1 ≤ c .k
   pub terms-high : c .k ≤ c .N
   pub reduced : (j : ℕ) → j ≤ c .D → (t : ℕ) → t < c .N → c .f j t < c .p

@@ -15,18 +15,21 @@ use lib.Dec.{ltb}
 use lib.ListN.{length, take, drop, length-drop}
 use lib.Seq.{getD-take, getD-drop, length-take-le}
 use Rattle.algebra.specs.Sums.{sumTo, sumTo-zero}
-use Rattle.numbers.specs.Words.{word, choose, Decides}
+use Rattle.numbers.specs.Words.{word, choose, part, Decides}
 use Rattle.numbers.proofs.WordsLaws.{lt-or-ge, true-false}
+use Rattle.layout.proofs.PlacesLaws.{count-sum}
 use Rattle.rows.proofs.RowsLaws.{row-fits}
-use Rattle.split.specs.Factors.{IsFactors}
-use Rattle.split.proofs.FactorsLaws.{factors-unique, factors-ext}
-use Rattle.split.proofs.BlocksLaws.{locate, in-block}
-use Rattle.sheet.specs.Layout.{modulus, degree, width, terms, count, factorsFrom, root, power, polynomial, factor, factorRows}
+use Rattle.hensel.specs.Factors.{IsFactors}
+use Rattle.hensel.proofs.FactorsLaws.{factors-unique, factors-ext}
+use Rattle.hensel.proofs.BlocksLaws.{locate, in-block}
+use Rattle.layout.specs.declared.Header.{Header}
+use Rattle.layout.specs.Places.{HeaderIs}
+use Rattle.layout.specs.Layout.{modulus, degree, width, terms, count, factorsFrom, root, power, polynomial, factor, factorRows}
 use Rattle.sheet.specs.Sheet.{Sound, soundTest}
-use Rattle.sheet.specs.Stages.{Shape, PolynomialFits, topFrom, Front, SplitFits, blockRows, upTo, Computed, SameTerms}
+use Rattle.front.specs.Front.{Shape, PolynomialFits, topFrom, Front}
+use Rattle.sheet.specs.Stages.{SplitFits, blockRows, upTo, Computed, SameTerms}
 use Rattle.sheet.proofs.SoundTestLaws.{sound-test}
 use Rattle.sheet.proofs.WorkLaws.{unit-later, top-is}
-use Rattle.sheet.proofs.ReadingLaws.{count-sum}
 
 pub up-low : (k : ℕ) (a : ℕ → ℕ) (t : ℕ) → t < k → upTo k a t ≡ a t
 up-low k a t l = rw (lt-ltb t k l)
@@ -182,16 +185,21 @@ module _ (s : List ℕ) (h : Front s) (w : ℕ) (rows : List ℕ) (g : Computed 
         }
 
   -- the comparison of the part of the sheet that holds the factors' rows decides whether it is sound
-  pub same-decides : (from : ℕ) → from ≡ factorsFrom (degree s) (width s) (count s) → (b : Bool)
-      → Decides b (SameTerms (width s) (terms s) (degree s) (take (from + degree s * width s - from) (drop from s)) rows) → Decides b (Sound s)
-  same-decides from e b d = record {
+  pub same-decides : (r : Header) → HeaderIs s r → (x : List ℕ) → x ≡ part s (factorsFrom (degree s) (width s) (count s)) (degree s * width s) → (b : Bool)
+      → Decides b (SameTerms (r .width) (r .terms) (r .degree) x rows) → Decides b (Sound s)
+  same-decides r is x e b given = record {
     yes = λ q. stages-sound (λ j l t u. sym (stored-word j l t u) ∙ d .yes q j l t u);
     no = λ q f. d .no q (λ j l t u. stored-word j l t u ∙ sound-same f j l t u);
   }
     where
-      stored-word : (j : ℕ) → j < degree s → (t : ℕ) → t < width s → word (take (from + degree s * width s - from) (drop from s)) (j * width s + t) ≡ factorRows s j t
+      d : Decides b (SameTerms (width s) (terms s) (degree s) x rows)
+      d = rw (← is .width-is, ← is .terms-is, ← is .degree-is) given
+
+      stored-word : (j : ℕ) → j < degree s → (t : ℕ) → t < width s → word x (j * width s + t) ≡ factorRows s j t
       stored-word j l t u =
-          getD-take (from + degree s * width s - from) (drop from s) (j * width s + t) 0 (omega (arith, row-fits j (degree s) (width s) l)) ∙ getD-drop from s (j * width s + t) 0 ∙ ap (word s) (omega arith)
+          let from = factorsFrom (degree s) (width s) (count s) in
+          ap (λ y. word y (j * width s + t)) e ∙ getD-take (degree s * width s) (drop from s) (j * width s + t) 0 (omega (arith, row-fits j (degree s) (width s) l)) ∙ getD-drop from s (j * width s + t) 0
+          ∙ ap (word s) (omega arith)
 
 -- the test's answer
 pub answers : (b : Bool) (s : List ℕ) → Decides b (Sound s) → b ≡ soundTest s

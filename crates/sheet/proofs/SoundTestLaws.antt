@@ -15,8 +15,8 @@ use Rattle.numbers.specs.Divisor.{leastDivisor}
 use Rattle.numbers.proofs.WordsLaws.{true-false}
 use Rattle.numbers.proofs.TestsLaws.{all-at, _&_, none-left, all-of, allTo-at, at-allTo, eqs, square, lower, past}
 use Rattle.numbers.proofs.DivisorLaws.{least-prime, prime-least}
-use Rattle.split.specs.Factors.{IsFactors}
-use Rattle.sheet.specs.Layout.{modulus, degree, width, terms, power, root, polynomial, factorRows}
+use Rattle.hensel.specs.Factors.{IsFactors}
+use Rattle.layout.specs.Layout.{modulus, degree, width, terms, power, root, polynomial, factorRows}
 use Rattle.sheet.specs.Sheet.{Sound, primeTest, factorsTest, headerTest, bodyTest, soundTest}
 
 pub prime-test : (p : ℕ) → (primeTest p ≡ true) ↔ Prime p

@@ -14,11 +14,11 @@ use mathlib.Core.List.{List}
 use lib.ListN.{take}
 use Rattle.algebra.specs.Sums.{sumTo-ext}
 use Rattle.numbers.specs.Words.{word}
-use Rattle.split.specs.Factors.{IsFactors, SameFactors, SamePolynomial}
-use Rattle.sheet.specs.Layout.{modulus, degree, width, terms, end, polynomial}
+use Rattle.hensel.specs.Factors.{IsFactors, SameFactors, SamePolynomial}
+use Rattle.layout.specs.Layout.{modulus, degree, width, terms, end, polynomial}
 use Rattle.sheet.specs.Sheet.{Sound, Given, Holds}
-use Rattle.split.proofs.FactorsLaws.{factors-unique, factors-determine}
-use Rattle.split.proofs.BlocksLaws.{Block, locate}
+use Rattle.hensel.proofs.FactorsLaws.{factors-unique, factors-determine}
+use Rattle.hensel.proofs.BlocksLaws.{Block, locate}
 use Rattle.sheet.proofs.ContentLaws.{Content, contentOf, SameContent, words-same, same-size}
 use Rattle.sheet.proofs.SheetsLaws.{factorOf, Good, factor-row, sound-good, sound-words, sound-take}
 

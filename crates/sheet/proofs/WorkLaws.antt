@@ -1,7 +1,9 @@
 -- The factors of a sheet's polynomial, worked out from the roots, the powers and the rows that the sheet lists.
 --   work-listed   what finding the factors is given
 --   worked-out    what it finds
---   lent-roots, lent-powers, lent-rows, lent-sum   the roots, powers and rows as they are read from the sheet
+--   loaded, loaded-sum   the roots and powers as they are read from the sheet
+--   lower-rows    and the polynomial's rows
+--   pairs-long, lower-long, all-long   the parts that are read have their length
 -- Assumes nothing.
 use Prim.Native.Nat.{ℕ, zero, suc, _+_, _-_, _*_, _≤_, _<_}
 use native.Mathlib.Nat.{eq-or-lt-of-le, zero-add}
@@ -11,19 +13,29 @@ use mathlib.Core.Path.{_≡_, refl, sym, _∙_, ap, subst}
 use mathlib.Core.Logic.{⊎-elim}
 use mathlib.Core.Bool.{Bool}
 use mathlib.Core.List.{List}
-use lib.ListN.{length, take, drop, length-drop}
+use lib.ListN.{length, drop, length-drop}
 use lib.Seq.{getD-take, getD-drop, length-take-le}
 use Rattle.algebra.specs.Sums.{sumTo, sumTo-ext}
-use Rattle.numbers.specs.Words.{word, tabulate, over, AllBelow}
+use Rattle.numbers.specs.Words.{word, tabulate, over, part, AllBelow}
 use Rattle.numbers.proofs.WordsLaws.{length-tabulate, word-tabulate, over-whole}
 use Rattle.rows.specs.Rows.{unit, monic}
 use Rattle.rows.proofs.RowsLaws.{by-row, row-fits}
 use Rattle.rows.proofs.MonicLaws.{monic-low, monic-top}
-use Rattle.split.specs.Factors.{split, IsFactors}
-use Rattle.split.specs.Table.{rowsFrom, Listed, SplitsAtZero, FactorsTo, Found}
-use Rattle.split.proofs.FactorsLaws.{factors-ext, split-ext}
-use Rattle.sheet.specs.Layout.{modulus, degree, width, count, polynomialFrom, root, power, polynomial}
-use Rattle.sheet.specs.Stages.{topFrom, Front, SplitFits, blockRows, Computed, WorkedOut}
+use Rattle.hensel.specs.Factors.{split, IsFactors}
+use Rattle.solution.specs.Table.{rowsFrom}
+use Rattle.split.specs.Found.{RootsListed, SplitsAtZero, FactorsTo, Found}
+use Rattle.hensel.proofs.FactorsLaws.{factors-ext, split-ext}
+use Rattle.layout.specs.declared.Header.{Header}
+use Rattle.layout.specs.Layout.{modulus, degree, width, count, rootsFrom, polynomialFrom, factorsFrom, root, power, polynomial}
+use Rattle.layout.specs.Places.{HeaderIs, Placed}
+use Rattle.layout.proofs.PlacesLaws.{lower-within, factors-within}
+use Rattle.front.specs.Front.{topFrom, Front}
+use Rattle.sheet.specs.Stages.{SplitFits, Loaded, blockRows, Computed, WorkedOut}
+
+-- the rows are the polynomial's but for the top one
+pub record LowerRows (s rows : List ℕ) : Type 0 where
+  pub long : length rows ≡ degree s * width s
+  pub are : (j : ℕ) → j < degree s → (t : ℕ) → t < width s → word rows (j * width s + t) ≡ polynomial s j t
 
 by-unit : (A : ℕ → Type 0) → A 0 → ((t : ℕ) → 1 ≤ t → A t) → (t : ℕ) → A t
 by-unit A z h zero = z
@@ -42,23 +54,41 @@ module _ (s : List ℕ) (h : Front s) where
       let e : polynomial s (degree s) t ≡ 0 = ap (word s) (let q : topFrom s + t ≡ topFrom s + 0 * width s + t = omega arith in q) ∙ omega arith in
       e ∙ sym (unit-later t u))
 
-  module _ (w : ℕ) (low : 1 ≤ w) (high : w ≤ width s) (roots powers rows : List ℕ)
-      (nr : length roots ≡ count s) (np : length powers ≡ count s) (nw : length rows ≡ degree s * width s)
-      (er : (i : ℕ) → i < count s → word roots i ≡ root s i) (ep : (i : ℕ) → i < count s → word powers i ≡ power s i)
-      (ef : (j : ℕ) → j < degree s → (t : ℕ) → t < width s → word rows (j * width s + t) ≡ polynomial s j t) where
+  pub loaded-sum : (roots powers : List ℕ) → Loaded s roots powers → sumTo (length powers) (word powers) ≡ degree s
+  loaded-sum roots powers g = ap (λ n. sumTo n (word powers)) (g .powers-long) ∙ sumTo-ext (count s) (g .powers-are) ∙ h .shape .powers .sum
+
+  module _ (w : ℕ) (low : 1 ≤ w) (high : w ≤ width s) (roots powers rows : List ℕ) (given : Loaded s roots powers) (lower : LowerRows s rows) where
     abbrev D : ℕ
     D = sumTo (length powers) (word powers)
 
     sum-is : D ≡ degree s
-    sum-is = ap (λ n. sumTo n (word powers)) np ∙ sumTo-ext (count s) ep ∙ h .shape .powers .sum
+    sum-is = loaded-sum roots powers given
+
+    nr : length roots ≡ count s
+    nr = given .roots-long
+
+    np : length powers ≡ count s
+    np = given .powers-long
+
+    nw : length rows ≡ degree s * width s
+    nw = lower .long
+
+    er : (i : ℕ) → i < count s → word roots i ≡ root s i
+    er = given .roots-are
+
+    ep : (i : ℕ) → i < count s → word powers i ≡ power s i
+    ep = given .powers-are
+
+    ef : (j : ℕ) → j < degree s → (t : ℕ) → t < width s → word rows (j * width s + t) ≡ polynomial s j t
+    ef = lower .are
 
     rows-below : AllBelow (modulus s) rows
     rows-below i l =
         by-row (degree s) (width s) (λ i. word rows i < modulus s) (omega arith)
         (λ j g t u. subst (λ x. x < modulus s) (sym (ef j g t u)) (h .words .reduced j (omega arith) t (omega arith) u)) i (omega arith)
 
-    pub work-listed : Listed (modulus s) (width s) w roots powers rows
-    work-listed = record {
+    listed : RootsListed (modulus s) (width s) w roots powers rows
+    listed = record {
       prime = h .shape .header .prime;
       small = let z = h .shape .header .small in omega arith;
       width = h .shape .header .width-high;
@@ -103,41 +133,53 @@ module _ (s : List ℕ) (h : Front s) where
         ∙ split-ext (modulus s) (count s) (word roots) (root s) (word powers) (power s) er ep j
         ∙ g j (let z = sum-is in omega arith) ∙ sym (given-is j l 0 (omega arith))
 
-    pub worked-out : (found : Bool) (new : List ℕ) → Found (modulus s) (width s) w roots powers rows found new → WorkedOut s w found new
-    worked-out found new g = record { yes = λ e. computed new (g .yes e); no = λ e f. g .no e (fits-splits f) }
+    -- for the header as it was read
+    pub work-listed : (h : Header) → HeaderIs s h → RootsListed (h .p) (h .width) w roots powers rows
+    work-listed h e = rw (e .p-is, e .width-is) listed
 
--- as the loops read them: a table of roots with powers from word 10 to the polynomial, and the polynomial's rows below Y^D
-module _ (s : List ℕ) (h : Front s) (from : ℕ) (e : from ≡ polynomialFrom (count s)) where
-  entry : (i t : ℕ) → i < count s → t < 2 → word (take (from - 10) (drop 10 s)) (i * 2 + t) ≡ word s (10 + 2 * i + t)
-  entry i t l g = getD-take (from - 10) (drop 10 s) (i * 2 + t) 0 (omega arith) ∙ getD-drop 10 s (i * 2 + t) 0 ∙ ap (word s) (let q : 10 + (i * 2 + t) ≡ 10 + 2 * i + t = omega arith in q)
+    pub worked-out : (h : Header) → HeaderIs s h → (found : Bool) (new : List ℕ) → Found (h .p) (h .width) w roots powers rows found new → WorkedOut s w found new
+    worked-out h e found new f =
+        let g : Found (modulus s) (width s) w roots powers rows found new = rw (← e .p-is, ← e .width-is) f in
+        record { yes = λ e. computed new (g .yes e); no = λ e f. g .no e (fits-splits f) }
 
-  module _ (old new : List ℕ) (n : length old ≡ count s) where
-    pub lent-count : (t : ℕ) → new ≡ tabulate (length old) (λ j. word (take (from - 10) (drop 10 s)) (j * 2 + t)) → length new ≡ count s
-    lent-count t q = ap length q ∙ length-tabulate (length old) _ ∙ n
+-- parts of a sheet have their length
+pub pairs-long : (s pairs : List ℕ) (r : ℕ) → pairs ≡ part s rootsFrom (2 * r) → polynomialFrom r ≤ length s → length pairs ≡ 2 * r
+pairs-long s pairs r e l = ap length e ∙ length-take-le (2 * r) (drop rootsFrom s) (omega (arith, length-drop rootsFrom s))
 
-    pub lent-roots : new ≡ tabulate (length old) (λ j. word (take (from - 10) (drop 10 s)) (j * 2 + 0)) → (i : ℕ) → i < count s → word new i ≡ root s i
-    lent-roots q i l = ap (λ x. word x i) q ∙ word-tabulate (length old) _ i (omega arith) ∙ entry i 0 l (omega arith) ∙ ap (word s) (let z : 10 + 2 * i + 0 ≡ 10 + 2 * i = omega arith in z)
+pub lower-long : (s : List ℕ) → Placed s → (lower : List ℕ) → lower ≡ part s (polynomialFrom (count s)) (degree s * width s) → length lower ≡ degree s * width s
+lower-long s h lower e = ap length e ∙ length-take-le (degree s * width s) (drop (polynomialFrom (count s)) s) (omega (arith, length-drop (polynomialFrom (count s)) s, lower-within s h))
 
-    pub lent-powers : new ≡ tabulate (length old) (λ j. word (take (from - 10) (drop 10 s)) (j * 2 + 1)) → (i : ℕ) → i < count s → word new i ≡ power s i
-    lent-powers q i l = ap (λ x. word x i) q ∙ word-tabulate (length old) _ i (omega arith) ∙ entry i 1 l (omega arith)
+pub all-long : (s : List ℕ) → Placed s → (all : List ℕ) → all ≡ part s (factorsFrom (degree s) (width s) (count s)) (degree s * width s) → length all ≡ degree s * width s
+all-long s h all e =
+    let from = factorsFrom (degree s) (width s) (count s) in
+    ap length e ∙ length-take-le (degree s * width s) (drop from s) (omega (arith, length-drop from s, factors-within s h))
 
-    pub lent-sum : new ≡ tabulate (length old) (λ j. word (take (from - 10) (drop 10 s)) (j * 2 + 1)) → sumTo (length new) (word new) ≡ degree s
-    lent-sum q = ap (λ x. sumTo x (word new)) (lent-count 1 q) ∙ sumTo-ext (count s) (lent-powers q) ∙ h .shape .powers .sum
+-- the roots and powers, as they are read: two words each
+pub loaded : (s roots powers pairs : List ℕ) (r m n : ℕ) → r ≡ count s → m ≡ count s → n ≡ count s → pairs ≡ part s rootsFrom (2 * r)
+    → roots ≡ tabulate m (λ j. word pairs (j * 2 + 0)) → powers ≡ tabulate n (λ j. word pairs (j * 2 + 1)) → Loaded s roots powers
+loaded s roots powers pairs r m n e em en q qr qp = record {
+  roots-long = ap length qr ∙ length-tabulate m _ ∙ em;
+  powers-long = ap length qp ∙ length-tabulate n _ ∙ en;
+  roots-are = λ i l. ap (λ x. word x i) qr ∙ word-tabulate m _ i (omega arith) ∙ entry i 0 l (omega arith) ∙ ap (word s) (let z : rootsFrom + 2 * i + 0 ≡ rootsFrom + 2 * i = omega arith in z);
+  powers-are = λ i l. ap (λ x. word x i) qp ∙ word-tabulate n _ i (omega arith) ∙ entry i 1 l (omega arith);
+}
+  where
+    entry : (i t : ℕ) → i < count s → t < 2 → word pairs (i * 2 + t) ≡ word s (rootsFrom + 2 * i + t)
+    entry i t l g =
+        ap (λ x. word x (i * 2 + t)) q ∙ getD-take (2 * r) (drop rootsFrom s) (i * 2 + t) 0 (omega arith) ∙ getD-drop rootsFrom s (i * 2 + t) 0
+        ∙ ap (word s) (let z : rootsFrom + (i * 2 + t) ≡ rootsFrom + 2 * i + t = omega arith in z)
 
-  -- the rows, copied
-  pub lent-rows : (old new : List ℕ) → length old ≡ degree s * width s
-      → new ≡ over (take (from + degree s * width s - from) (drop from s)) old
-      → (length new ≡ degree s * width s) × ((j : ℕ) → j < degree s → (t : ℕ) → t < width s → word new (j * width s + t) ≡ polynomial s j t)
-  lent-rows old new n q =
-      let size = degree s * width s in
-      let part = take (from + size - from) (drop from s) in
-      let z : from + size - from ≡ size = omega arith in
-      let m : (2 * degree s + 1) * width s ≡ degree s * width s + (degree s + 1) * width s = omega arith in
-      let long = h .shape .offsets .long in
-      let np : length part ≡ size = ap (λ x. length (take x (drop from s))) z ∙ length-take-le size (drop from s) (omega (arith, length-drop from s)) in
-      let w : new ≡ part = q ∙ over-whole part old (np ∙ sym n) in (
-        ap length w ∙ np,
-        λ j l t g.
-            ap (λ x. word x (j * width s + t)) w ∙ getD-take (from + size - from) (drop from s) (j * width s + t) 0 (omega (arith, row-fits j (degree s) (width s) l)) ∙ getD-drop from s (j * width s + t) 0
-            ∙ ap (word s) (omega arith),
-      )
+-- the polynomial's rows below Y^D, copied
+pub lower-rows : (s : List ℕ) → Placed s → (lower old new : List ℕ) → length old ≡ degree s * width s → lower ≡ part s (polynomialFrom (count s)) (degree s * width s)
+    → new ≡ over lower old → LowerRows s new
+lower-rows s h lower old new n e q =
+    let size = degree s * width s in
+    let from = polynomialFrom (count s) in
+    let long = lower-long s h lower e in
+    let w : new ≡ part s from size = q ∙ over-whole lower old (long ∙ sym n) ∙ e in
+    record {
+      long = ap length w ∙ sym (ap length e) ∙ long;
+      are = λ j l t g.
+          ap (λ x. word x (j * width s + t)) w ∙ getD-take size (drop from s) (j * width s + t) 0 (omega (arith, row-fits j (degree s) (width s) l)) ∙ getD-drop from s (j * width s + t) 0
+          ∙ ap (word s) (omega arith);
+    }

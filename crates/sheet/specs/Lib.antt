@@ -1,4 +1,3 @@
-pub mod Layout
 pub mod Sheet
 pub mod Stages
 pub mod Reading

@@ -1,23 +1,18 @@
 -- Passing the rows of a factor on, as a row polynomial of bound power − 1: what the product of factor i's rows and g answers and writes.
---   factorPart s i      the part of the sheet that holds the rows of factor i
 --   timesChecks ..      the checks of reading, then those of the product; room is the length of the output
 --   timesSize ..        the words that it writes
 --   timesWords ..       those words
 -- Assumes nothing.
 use Prim.Native.Nat.{ℕ, _+_, _-_, _*_}
 use mathlib.Core.List.{List, _++_}
-use Rattle.numbers.specs.Words.{part}
 use Rattle.numbers.specs.Refusals.{Check, judge}
 use Rattle.numbers.specs.declared.refusal.Verdict.{Verdict}
-use Rattle.rows.specs.Rows.{multiplyChecks, rowProduct}
-use Rattle.sheet.specs.Layout.{modulus, width, power}
-use Rattle.sheet.specs.Sheet.{readChecks, rowsStart}
-
-abbrev pub factorPart : List ℕ → ℕ → List ℕ
-factorPart s i = part s (rowsStart s i) (power s i * width s)
+use Rattle.rows.specs.Rows.{productChecks, rowProduct}
+use Rattle.layout.specs.Layout.{modulus, width, power, factorPart}
+use Rattle.sheet.specs.Sheet.{readChecks}
 
 abbrev pub timesChecks : (s : List ℕ) (i e : ℕ) (g : List ℕ) (room : ℕ) → List Check
-timesChecks s i e g room = readChecks s i ++ multiplyChecks (modulus s) (power s i - 1) e (width s) (factorPart s i) g room
+timesChecks s i e g room = readChecks s i ++ productChecks (modulus s) (power s i - 1) e (width s) (factorPart s i) g room
 
 unfoldable pub timesVerdict : (s : List ℕ) (i e : ℕ) (g : List ℕ) (room : ℕ) → Verdict
 timesVerdict s i e g room = judge (timesChecks s i e g room)

@@ -1,8 +1,8 @@
 -- The sound sheet, and what reading a factor answers.
 --   Sound s            all that documents 01 and 02 (F-8) say of a sheet, clause by clause; it depends on the words alone
 --   soundTest s        the same as a test that computes (`sound-test` shows that they are one)
---   Given              what open is given: p, D, N, the rows of the polynomial and the roots
---   readChecks         the checks of reading
+--   Given              what open is given: p, D, N, the rows of the polynomial and the roots; `givenOf` makes it
+--   soundCheck, indexCheck, readChecks   refusals 13 and 16, and the checks of reading
 --   Holds g k s        s is a sound sheet that holds what open was given, with k terms
 --   readFactor, readPart   what reading factor i answers
 -- Assumes nothing.
@@ -14,17 +14,18 @@ use lib.Dec.{leb, ltb, eqb}
 use lib.ListN.{length}
 use Rattle.algebra.specs.Sums.{sumTo}
 use Rattle.algebra.specs.Fp.{Prime}
-use Rattle.numbers.specs.Words.{word, allTo, all, part}
+use Rattle.numbers.specs.Words.{word, allTo, all}
 use Rattle.numbers.specs.Divisor.{leastDivisor}
-use Rattle.numbers.specs.Refusals.{Check, check, judge, Outcome, accepted, refused, largestModulus}
+use Rattle.numbers.specs.Refusals.{Check, check, judge, Outcome, accepted, refused}
 use Rattle.numbers.specs.declared.refusal.Verdict.{Verdict}
 use Rattle.numbers.specs.declared.refusal.Verdict.the-variants.{Pass, Refuse}
+use Rattle.numbers.specs.Limits.{largestModulus, largestDegree, largestWidth}
 use Rattle.rows.specs.Rows.{unit, monic}
 use Rattle.sheet.specs.declared.Factor.{Factor}
 use Rattle.sheet.specs.declared.FactorAnswer.{FactorAnswer}
 use Rattle.sheet.specs.declared.FactorAnswer.the-variants.{Is, Refused}
-use Rattle.split.specs.Factors.{product, split, rootPower, IsFactors}
-use Rattle.sheet.specs.Layout.{rowsAt, modulus, degree, width, terms, count, rootsFrom, polynomialFrom, factorsFrom, root, power, end, polynomial, factorRows, factor}
+use Rattle.hensel.specs.Factors.{product, split, rootPower, IsFactors}
+use Rattle.layout.specs.Layout.{rowsAt, modulus, degree, width, terms, count, rootsOffset, polynomialOffset, factorsOffset, restOffset, endOffset, rootsFrom, polynomialFrom, factorsFrom, root, power, end, polynomial, factorRows, factor, factorPart}
 
 -- Sound, clause by clause.
 pub record Sound (s : List ℕ) : Type 0 where
@@ -32,15 +33,15 @@ pub record Sound (s : List ℕ) : Type 0 where
   pub prime : Prime (modulus s)
   pub small : modulus s ≤ largestModulus
   pub degree-low : 1 ≤ degree s
-  pub degree-high : degree s ≤ 32
-  pub width-high : width s ≤ 256
+  pub degree-high : degree s ≤ largestDegree
+  pub width-high : width s ≤ largestWidth
   pub terms-low : 1 ≤ terms s
   pub terms-high : terms s ≤ width s
-  pub offset-roots : word s 5 ≡ rootsFrom
-  pub offset-polynomial : word s 6 ≡ polynomialFrom (count s)
-  pub offset-factors : word s 7 ≡ factorsFrom (degree s) (width s) (count s)
-  pub offset-rest : word s 8 ≡ end s
-  pub offset-end : word s 9 ≡ end s
+  pub offset-roots : rootsOffset s ≡ rootsFrom
+  pub offset-polynomial : polynomialOffset s ≡ polynomialFrom (count s)
+  pub offset-factors : factorsOffset s ≡ factorsFrom (degree s) (width s) (count s)
+  pub offset-rest : restOffset s ≡ end s
+  pub offset-end : endOffset s ≡ end s
   pub long : end s ≤ length s
   -- the polynomial: words below p, row D is 1, 0, 0, ..
   pub polynomial-reduced : (j : ℕ) → j ≤ degree s → (t : ℕ) → t < width s → polynomial s j t < modulus s
@@ -73,15 +74,15 @@ headerTest s =
     primeTest (modulus s)
     ∷ leb (modulus s) largestModulus
     ∷ leb 1 (degree s)
-    ∷ leb (degree s) 32
-    ∷ leb (width s) 256
+    ∷ leb (degree s) largestDegree
+    ∷ leb (width s) largestWidth
     ∷ leb 1 (terms s)
     ∷ leb (terms s) (width s)
-    ∷ eqb (word s 5) rootsFrom
-    ∷ eqb (word s 6) (polynomialFrom (count s))
-    ∷ eqb (word s 7) (factorsFrom (degree s) (width s) (count s))
-    ∷ eqb (word s 8) (end s)
-    ∷ eqb (word s 9) (end s)
+    ∷ eqb (rootsOffset s) rootsFrom
+    ∷ eqb (polynomialOffset s) (polynomialFrom (count s))
+    ∷ eqb (factorsOffset s) (factorsFrom (degree s) (width s) (count s))
+    ∷ eqb (restOffset s) (end s)
+    ∷ eqb (endOffset s) (end s)
     ∷ leb (end s) (length s)
     ∷ []
     )
@@ -108,6 +109,13 @@ pub record Given : Type 0 where
   pub rows : List ℕ
   pub roots : List ℕ
 
+abbrev pub givenOf : (p D N : ℕ) (rows roots : List ℕ) → Given
+givenOf p D N rows roots = record { p = p; D = D; N = N; rows = rows; roots = roots }
+
+-- the most terms that its sheet can have
+abbrev pub given-reach : Given → ℕ
+given-reach g = g .N
+
 abbrev pub given-polynomial : Given → ℕ → ℕ → ℕ
 given-polynomial g = rowsAt (g .rows) 0 (g .N)
 
@@ -122,15 +130,15 @@ pub record Holds (g : Given) (k : ℕ) (s : List ℕ) : Type 0 where
   pub same-polynomial : (j : ℕ) → j ≤ degree s → (t : ℕ) → t < width s → polynomial s j t ≡ given-polynomial g j t
   pub same-terms : terms s ≡ k
 
--- Reading factor i: its root, its power, and where its rows stand (from, to).
+-- Reading factor i.
+abbrev pub soundCheck : List ℕ → Check
+soundCheck s = check 13 (not (soundTest s)) 0
+
+abbrev pub indexCheck : List ℕ → ℕ → Check
+indexCheck s i = check 16 (leb (count s) i) 0
+
 abbrev pub readChecks : List ℕ → ℕ → List Check
-readChecks s i = check 13 (not (soundTest s)) 0 ∷ check 16 (leb (count s) i) 0 ∷ []
-
-abbrev pub rowsStart : List ℕ → ℕ → ℕ
-rowsStart s i = factorsFrom (degree s) (width s) (count s) + sumTo i (power s) * width s
-
-abbrev pub rowsEnd : List ℕ → ℕ → ℕ
-rowsEnd s i = rowsStart s i + power s i * width s
+readChecks s i = soundCheck s ∷ indexCheck s i ∷ []
 
 -- What reading factor i answers: its root and power, and the part of the sheet that holds its rows, which is empty on a refusal.
 abbrev pub readVerdict : List ℕ → ℕ → Verdict
@@ -144,5 +152,5 @@ factorOutcome (Is f) = accepted f
 factorOutcome (Refused r) = refused (r .number) (r .detail)
 
 abbrev pub readPart : Verdict → List ℕ → ℕ → List ℕ
-readPart Pass s i = part s (rowsStart s i) (power s i * width s)
+readPart Pass s i = factorPart s i
 readPart (Refuse r) s i = []

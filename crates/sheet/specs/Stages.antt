@@ -1,14 +1,7 @@
--- What the stages of the test of a sheet decide. A sheet is sound exactly where its front fits, its polynomial has factors, and the rows stored are theirs
--- (`sound-front`, `sound-split`, `sound-same`; `stages-sound`).
---   HeaderFits         words 0 to 4, and room for the roots and powers
---   PowersFit          the powers are 1 or more and come to D
---   OffsetsFit         words 5 to 9, and room for all
---   Shape              these three: what is known before a word past the powers is read
---   RootsBelow, RootsRise   the roots are below p, and rise
---   RowsBelow          columns from..to − 1 of rows of n words from word o on are below q
---   PolynomialFits     the polynomial's words are below p, and its top row is 1, 0, 0, ..
---   Front              all of these: what stands before the factors' rows fits
+-- What the last stages of the test of a sheet decide. A sheet is sound exactly where its front fits (`Front`), its polynomial has factors, and the rows stored are
+-- theirs (`sound-front`, `sound-split`, `sound-same`; `stages-sound`).
 --   SplitFits          at X = 0 the polynomial is the product of the powers of Y − c
+--   Loaded s roots powers   these are the roots and the powers that the sheet lists
 --   Computed s w rows  the rows are those of the factors of the sheet's polynomial to w terms; columns from w up are 0
 --   upTo k a t         a t, and 0 from k on
 --   SameTerms ..       the stored rows of n words are the computed ones below column k, and 0 from there on
@@ -21,66 +14,18 @@ use mathlib.Core.List.{List}
 use lib.Dec.{ltb}
 use lib.ListN.{length}
 use Rattle.algebra.specs.Sums.{sumTo}
-use Rattle.algebra.specs.Fp.{Prime}
 use Rattle.numbers.specs.Words.{word, choose, AllBelow}
-use Rattle.numbers.specs.Refusals.{largestModulus}
-use Rattle.split.specs.Factors.{split, IsFactors}
-use Rattle.sheet.specs.Layout.{rowsAt, modulus, degree, width, terms, count, rootsFrom, polynomialFrom, factorsFrom, root, power, end, polynomial}
-
-pub record HeaderFits (s : List ℕ) : Type 0 where
-  pub roomy : 10 + 2 * count s ≤ length s
-  pub prime : Prime (modulus s)
-  pub small : modulus s ≤ largestModulus
-  pub degree-low : 1 ≤ degree s
-  pub degree-high : degree s ≤ 32
-  pub width-high : width s ≤ 256
-  pub terms-low : 1 ≤ terms s
-  pub terms-high : terms s ≤ width s
-  pub count-low : 1 ≤ count s
-  pub count-high : count s ≤ degree s
-
-pub record PowersFit (s : List ℕ) (r d : ℕ) : Type 0 where
-  pub each : (i : ℕ) → i < r → 1 ≤ power s i
-  pub sum : sumTo r (power s) ≡ d
-
-pub record OffsetsFit (s : List ℕ) : Type 0 where
-  pub offset-roots : word s 5 ≡ rootsFrom
-  pub offset-polynomial : word s 6 ≡ polynomialFrom (count s)
-  pub offset-factors : word s 7 ≡ factorsFrom (degree s) (width s) (count s)
-  pub offset-rest : word s 8 ≡ end s
-  pub offset-end : word s 9 ≡ end s
-  pub long : end s ≤ length s
-
-pub record Shape (s : List ℕ) : Type 0 where
-  pub header : HeaderFits s
-  pub powers : PowersFit s (count s) (degree s)
-  pub offsets : OffsetsFit s
-
-abbrev pub RootsBelow : List ℕ → ℕ → ℕ → Type 0
-RootsBelow s r p = (i : ℕ) → i < r → root s i < p
-
-abbrev pub RootsRise : List ℕ → ℕ → Type 0
-RootsRise s r = (i : ℕ) → i + 1 < r → root s i < root s (i + 1)
-
-abbrev pub RowsBelow : (q : ℕ) (s : List ℕ) (o n rows from to : ℕ) → Type 0
-RowsBelow q s o n rows from to = (j : ℕ) → j < rows → (t : ℕ) → from ≤ t → t < to → rowsAt s o n j t < q
-
-abbrev pub topFrom : List ℕ → ℕ
-topFrom s = polynomialFrom (count s) + degree s * width s
-
-pub record PolynomialFits (s : List ℕ) : Type 0 where
-  pub reduced : RowsBelow (modulus s) s (polynomialFrom (count s)) (width s) (degree s + 1) 0 (width s)
-  pub top : word s (topFrom s) ≡ 1
-  pub later : RowsBelow 1 s (topFrom s) (width s) 1 1 (width s)
-
-pub record Front (s : List ℕ) : Type 0 where
-  pub shape : Shape s
-  pub below : RootsBelow s (count s) (modulus s)
-  pub rise : RootsRise s (count s)
-  pub words : PolynomialFits s
+use Rattle.hensel.specs.Factors.{split, IsFactors}
+use Rattle.layout.specs.Layout.{modulus, degree, width, count, root, power, polynomial}
 
 abbrev pub SplitFits : List ℕ → Type 0
 SplitFits s = (j : ℕ) → j ≤ degree s → split (modulus s) (count s) (root s) (power s) j ≡ polynomial s j 0
+
+pub record Loaded (s roots powers : List ℕ) : Type 0 where
+  pub roots-long : length roots ≡ count s
+  pub powers-long : length powers ≡ count s
+  pub roots-are : (i : ℕ) → i < count s → word roots i ≡ root s i
+  pub powers-are : (i : ℕ) → i < count s → word powers i ≡ power s i
 
 -- the rows of factor i among rows of n words
 abbrev pub blockRows : (n : ℕ) (power : ℕ → ℕ) (rows : List ℕ) → ℕ → ℕ → ℕ → ℕ

@@ -1,17 +1,30 @@
 // The factors of a sheet, worked out anew, and compared with those stored. These trust their caller: they have a `requires`, and are for the crates of
 // this repository. All are proved for every modulus below 2^24.
-use crate::layout;
 use columns::copy;
 use columns::load_column;
+use numbers::limits::MOST_ROOTS;
+use numbers::limits::MOST_ROWS;
 use split::factors::find_factors;
 ghost use mathlib.Core.Path.{_≡_};
 ghost use mathlib.Core.Bool.{true};
 ghost use Prim.Native.Nat.{ℕ, _+_, _*_, _≤_, _<_};
 ghost use lib.ListN.{length};
 ghost use Rattle.numbers.specs.Words.{word, Decides};
-ghost use Rattle.sheet.specs.Layout.{degree, width, terms, count};
+ghost use Rattle.numbers.specs.Limits.{largestDegree, largestWidth};
+ghost use Rattle.layout.specs.Layout.{degree, width, terms, count};
 ghost use Rattle.sheet.specs.Sheet.{Sound};
-ghost use Rattle.sheet.specs.Stages.{Front, Computed, WorkedOut, SameTerms, upTo};
+ghost use Rattle.front.specs.Front.{Front};
+ghost use Rattle.sheet.specs.Stages.{Loaded, Computed, WorkedOut, SameTerms, upTo};
+
+// The roots and the powers that the sheet lists.
+fn load_roots(s: &[u32], roots: &mut [u32], powers: &mut [u32])
+    requires { ⌜ Front (now s) × (length (now roots) ≡ count (now s)) × (length (now powers) ≡ count (now s)) ⌝ }
+    ensures { λ _. ⌜ Loaded (now (s .entry)) (now (roots .exit)) (now (powers .exit)) ⌝ }
+{
+    let pairs = layout::roots_part(s, roots.len());
+    load_column(pairs, 2, 0, roots);
+    load_column(pairs, 2, 1, powers);
+}
 
 // With room for the roots, the powers, and what finding the factors wants for scratch.
 fn work_with(
@@ -27,13 +40,10 @@ fn work_with(
         × (length (now line) ≡ degree (now s) + 1) × (length (now rows) ≡ degree (now s) * width (now s)) ⌝ }
     ensures { λ found. ⌜ WorkedOut (now (s .entry)) w found (now (rows .exit)) ⌝ }
 {
-    let n = s[2] as usize;
-    let from = layout::polynomial_from(s[4] as usize);
-    let end = from + (s[1] as usize) * n;
-    load_column(&s[10..from], 2, 0, roots);
-    load_column(&s[10..from], 2, 1, powers);
-    copy(&s[from..end], rows);
-    find_factors(s[0], n, roots, powers, w, c, line, rows)
+    load_roots(s, roots, powers);
+    copy(layout::lower_part(s), rows);
+    let h = layout::read_header(s);
+    find_factors(h.p, h.width, roots, powers, w, c, line, rows)
 }
 
 // Whether the sheet's polynomial has factors: whether it is, at X = 0, the product of the powers of Y − c that the sheet lists. If so, `rows` becomes the
@@ -42,12 +52,13 @@ fn work_out(s: &[u32], w: usize, rows: &mut [u32]) -> bool
     requires { ⌜ Front (now s) × (1 ≤ w) × (w ≤ width (now s)) × (length (now rows) ≡ degree (now s) * width (now s)) ⌝ }
     ensures { λ found. ⌜ WorkedOut (now (s .entry)) w found (now (rows .exit)) ⌝ }
 {
-    let d = s[1] as usize;
-    let r = s[4] as usize;
-    let mut roots = [0u32; 32];
-    let mut powers = [0u32; 32];
-    let mut c = [0u32; 32];
-    let mut line = [0u32; 33];
+    let h = layout::read_header(s);
+    let d = h.degree;
+    let r = h.count;
+    let mut roots = [0u32; MOST_ROOTS];
+    let mut powers = [0u32; MOST_ROOTS];
+    let mut c = [0u32; MOST_ROOTS];
+    let mut line = [0u32; MOST_ROWS];
     work_with(
         s,
         w,
@@ -86,7 +97,7 @@ fn same_row(k: usize, stored: &[u32], computed: &[u32]) -> bool
 
 // Whether the stored rows are the computed ones below column k, and 0 from there on.
 fn same_terms(n: usize, k: usize, d: usize, stored: &[u32], computed: &[u32]) -> bool
-    requires { ⌜ (n ≤ 256) × (d ≤ 32) × (length (now stored) ≡ d * n) × (length (now computed) ≡ d * n) × (k ≤ n) ⌝ }
+    requires { ⌜ (n ≤ largestWidth) × (d ≤ largestDegree) × (length (now stored) ≡ d * n) × (length (now computed) ≡ d * n) × (k ≤ n) ⌝ }
     ensures { λ b. ⌜ Decides b (SameTerms n k d (now (stored .entry)) (now (computed .entry))) ⌝ }
 {
     let mut j = 0;
@@ -107,13 +118,9 @@ pub fn factors_fit(s: &[u32], to: usize, rows: &mut [u32]) -> bool
     ensures sound { λ b. ⌜ Decides b (Sound (now (s .entry))) ⌝ }
     ensures rows { λ b. ⌜ (b ≡ true → Computed (now (s .entry)) to (now (rows .exit))) ⌝ }
 {
-    let d = s[1] as usize;
-    let n = s[2] as usize;
-    let k = s[3] as usize;
-    let from = layout::factors_from(d, n, s[4] as usize);
     if !work_out(s, to, rows) {
         return false;
     }
-    let end = from + d * n;
-    same_terms(n, k, d, &s[from..end], rows)
+    let h = layout::read_header(s);
+    same_terms(h.width, h.terms, h.degree, layout::factors_part(s), rows)
 }

@@ -1,21 +1,18 @@
 // The factor sheet: a polynomial, its roots at X = 0 with their powers, and its Hensel factors to k terms, in words that leave the house and come
 // back. Every call judges the words that it is lent; a refusal changes none.
+use front::front_fits;
 use numbers::refusal::Answer;
 use numbers::refusal::Refusal;
 use numbers::refusal::Verdict;
 use numbers::refusal::refuse;
 ghost use mathlib.Core.Path.{_≡_};
-ghost use Prim.Native.Nat.{_<_};
 ghost use lib.ListN.{length};
 ghost use Rattle.numbers.specs.Words.{over};
 ghost use Rattle.numbers.specs.Refusals.{outcome, result, written};
-ghost use Rattle.sheet.specs.Layout.{count};
-ghost use Rattle.sheet.specs.Sheet.{Sound, soundTest, readVerdict, readFactor, factorOutcome, readPart};
-ghost use Rattle.sheet.specs.Reading.{factorPart, timesVerdict, timesSize, timesWords};
+ghost use Rattle.sheet.specs.Sheet.{soundTest, readVerdict, readFactor, factorOutcome, readPart};
+ghost use Rattle.sheet.specs.Reading.{timesVerdict, timesSize, timesWords};
 
 pub mod kernel; // the factors worked out, for callers that have judged
-pub mod layout; // where the words stand
-pub mod soundness; // the test of a sheet
 
 // A factor's root at X = 0 and its power, which is its degree.
 pub struct Factor {
@@ -32,17 +29,24 @@ pub enum FactorAnswer {
 pub fn test(sheet: &[u32]) -> bool
     ensures { λ r. ⌜ r ≡ soundTest (now (sheet .entry)) ⌝ }
 {
-    soundness::is_sound(sheet)
+    if !front_fits(sheet) {
+        return false;
+    }
+    let h = layout::read_header(sheet);
+    let size = h.degree * h.width;
+    let mut rows = [0u32; layout::FACTORS_ROOM];
+    kernel::factors_fit(sheet, h.terms, &mut rows[..size])
 }
 
-// Rows 13 and 16.
+// Refusals 13 and 16.
 fn check_read(sheet: &[u32], i: u32) -> Verdict
     ensures { λ r. ⌜ r ≡ readVerdict (now (sheet .entry)) i ⌝ }
 {
     if !test(sheet) {
         return refuse(13, 0);
     }
-    if sheet[4] <= i {
+    let h = layout::read_header(sheet);
+    if h.count <= i as usize {
         return refuse(16, 0);
     }
     Verdict::Pass
@@ -55,24 +59,11 @@ pub fn read_factor(sheet: &[u32], i: u32) -> FactorAnswer
     if let Verdict::Refuse(r) = check_read(sheet, i) {
         return FactorAnswer::Refused(r);
     }
-    let at = layout::ROOTS_FROM + 2 * (i as usize);
-    FactorAnswer::Is(Factor {
-        root: sheet[at],
-        power: sheet[at + 1],
-    })
-}
-
-// The rows of factor i of a sound sheet.
-fn part_of(sheet: &[u32], i: u32) -> &[u32]
-    requires { ⌜ Sound (now sheet) × (i < count (now sheet)) ⌝ }
-    ensures { λ r. ⌜ now r ≡ factorPart (now (sheet .entry)) i ⌝ }
-{
     let at = i as usize;
-    let width = sheet[2] as usize;
-    let from = layout::factors_from(sheet[1] as usize, width, sheet[4] as usize);
-    let a = from + layout::rows_before(sheet, at) * width;
-    let e = a + (sheet[layout::ROOTS_FROM + 2 * at + 1] as usize) * width;
-    &sheet[a..e]
+    FactorAnswer::Is(Factor {
+        root: layout::root_at(sheet, at),
+        power: layout::power_at(sheet, at),
+    })
 }
 
 // The part of the sheet that holds the rows of factor i; nothing where `read_factor` refuses.
@@ -82,7 +73,7 @@ pub fn factor_rows(sheet: &[u32], i: u32) -> &[u32]
     if let Verdict::Refuse(_) = check_read(sheet, i) {
         return &sheet[..0];
     }
-    part_of(sheet, i)
+    layout::factor_part(sheet, i as usize)
 }
 
 // The rows of factor i, of degree bound one below its power, times g, of degree bound e.
@@ -94,6 +85,9 @@ pub fn factor_times(sheet: &[u32], i: u32, e: u32, g: &[u32], out: &mut [u32]) -
     if let Verdict::Refuse(r) = check_read(sheet, i) {
         return Answer::Refused(r);
     }
-    let power = sheet[layout::ROOTS_FROM + 2 * (i as usize) + 1];
-    rows::multiply(sheet[0], power - 1, e, sheet[2], part_of(sheet, i), g, out)
+    let h = layout::read_header(sheet);
+    let at = i as usize;
+    let degree = layout::power_at(sheet, at) - 1;
+    let part = layout::factor_part(sheet, at);
+    rows::product(h.p, degree, e, h.width as u32, part, g, out)
 }

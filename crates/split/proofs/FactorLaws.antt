@@ -18,16 +18,17 @@ use Rattle.algebra.specs.Bridge.{col, same-rem, rem-zero, rem-one}
 use Rattle.numbers.specs.Words.{word, AllBelow}
 use Rattle.numbers.proofs.WordsLaws.{lt-or-ge, from, from-is}
 use Rattle.rows.specs.Rows.{mul, linePower, unit, monic}
-use Rattle.rows.proofs.RowsLaws.{line-lt}
+use Rattle.rows.proofs.RowsLaws.{line-lt, row-fits}
 use Rattle.rows.proofs.MulLaws.{mul-rem, mul-ext}
 use Rattle.rows.proofs.MonicLaws.{monic-low, monic-top, monic-above, monic-ext, by-place}
-use Rattle.columns.proofs.ColumnLaws.{putFrom, row-before, take-below, drop-below}
-use Rattle.columns.proofs.SolveLaws.{line-power}
-use Rattle.split.proofs.FactorsLaws.{monic-rem}
+use Rattle.columns.proofs.ColumnLaws.{putFrom, take-below, drop-below}
+use Rattle.hensel.proofs.FactorsLaws.{monic-rem}
 use Rattle.algebra.specs.Solution.{lines, lines-ext, lines-append, lines-same, lines-below, lines-top}
-use Rattle.split.specs.Table.{poly, capped, rowsFrom, Split, Roots, Ready, factorAt, Factored}
-use Rattle.split.proofs.DigitsLaws.{put-kept, put-drop, put-long}
-use Rattle.split.proofs.StepLaws.{capped-low, capped-top, capped-above}
+use Rattle.rows.proofs.ShiftLaws.{root-power}
+use Rattle.solution.specs.Table.{poly, capped, rowsFrom, Split}
+use Rattle.split.specs.Found.{Roots, NodeReady, factorAt, Factored}
+use Rattle.solution.proofs.DigitsLaws.{put-kept, put-drop, put-long}
+use Rattle.solution.proofs.StepLaws.{capped-low, capped-top, capped-above}
 
 pub prod-append : {S : Type 0} (𝓢 : CommRing S) (n m : ℕ) (F : ℕ → S) → prod 𝓢 (n + m) F ≡ 𝓢 .mul (prod 𝓢 n F) (prod 𝓢 m (λ i. F (n + i)))
 prod-append 𝓢 zero m F =
@@ -45,7 +46,7 @@ row-zero : (N j t : ℕ) (s : List ℕ) → rowsFrom 0 N s j t ≡ word s (j * N
 row-zero N j t s = ap (λ v. word s (v * N + t)) (zero-addₙ j)
 
 -- a node of one group is its factor
-pub leaf : (p N w : ℕ) (powers c s : List ℕ) → length powers < 2 → Ready p N w powers c s → Factored p N w powers c s s
+pub leaf : (p N w : ℕ) (powers c s : List ℕ) → length powers < 2 → NodeReady p N w powers c s → Factored p N w powers c s s
 leaf p N w powers c s one h =
     let r1 : length powers ≡ 1 = let z = h .some in omega arith in
     let s0 : sumTo 0 (word powers) ≡ 0 = sumTo-zero (word powers) in
@@ -72,10 +73,10 @@ leaf p N w powers c s one h =
         let pos = p-pos (h .prime) in
         let wide : 1 ≤ N = let a = h .terms-low in let b = h .terms-high in omega arith in
         let c0 : word c 0 < p = h .c-below 0 (omega arith) in
-        same-rem p pos (h .below (j * N) (let z = row-before j (length c) N l in let e = h .long in omega arith)) (line-lt p (p - word c 0) (length c) j (h .prime .two-le))
+        same-rem p pos (h .below (j * N) (let z = row-fits j (length c) N l in let e = h .long in omega arith)) (line-lt p (p - word c 0) (length c) j (h .prime .two-le))
         (h .first pos j l
         ∙ ap (λ f. f j) (lines-ext (Fp p pos) (length c) {c = poly p pos (word c)} {d = λ _. rem p pos (word c 0)} (λ i g. ap (rem p pos) (same-root i (omega arith)))
-        ∙ lines-same (Fp p pos) (rem p pos (word c 0)) (length c) ∙ sym (line-power p pos (word c 0) c0 (length c))))
+        ∙ lines-same (Fp p pos) (rem p pos (word c 0)) (length c) ∙ sym (root-power p pos (word c 0) c0 (length c))))
       where
         same-root : (i : ℕ) → i < word powers 0 → word c i ≡ word c 0
         same-root i g =
@@ -83,15 +84,12 @@ leaf p N w powers c s one h =
             ap (word c) (sym (ap (λ v. v + i) s0 ∙ zero-addₙ i)) ∙ h .roots .same 0 (h .some) i g ∙ ap (word c) s0
 
 -- the halves
-module _ (p N w : ℕ) (powers c s s1 : List ℕ) (h : Ready p N w powers c s) (mid : ℕ) (lo : 1 ≤ mid) (hi : mid < length powers) (m : ℕ) (em : m ≡ sumTo mid (word powers)) where
+module _ (p N w : ℕ) (powers c s s1 : List ℕ) (h : NodeReady p N w powers c s) (mid : ℕ) (lo : 1 ≤ mid) (hi : mid < length powers) (m : ℕ) (em : m ≡ sumTo mid (word powers)) where
   abbrev k : ℕ
   k = length c - m
 
   abbrev S : ℕ → ℕ
   S i = sumTo i (word powers)
-
-  r2 : ℕ
-  r2 = length powers - mid
 
   r-sum : mid + (length powers - mid) ≡ length powers
   r-sum = omega arith
@@ -199,12 +197,12 @@ module _ (p N w : ℕ) (powers c s s1 : List ℕ) (h : Ready p N w powers c s) (
     nd = length-drop (m * N) s1 ∙ omega (arith, parts, whole, n1)
 
     low-cell : (j t : ℕ) → j < m → t < N → word (take (m * N) s1) (j * N + t) ≡ word s1 (j * N + t)
-    low-cell j t l g = getD-take (m * N) s1 (j * N + t) 0 (let z = row-before j m N l in omega arith)
+    low-cell j t l g = getD-take (m * N) s1 (j * N + t) 0 (let z = row-fits j m N l in omega arith)
 
     high-cell : (j t : ℕ) → word (drop (m * N) s1) (j * N + t) ≡ word s1 ((m + j) * N + t)
     high-cell j t = getD-drop (m * N) s1 (j * N + t) 0 ∙ ap (word s1) (let e = add-mulₙ m j N in let z : m * N + (j * N + t) ≡ (m + j) * N + t = omega arith in z)
 
-    pub ready-left : Ready p N w (take mid powers) (take m c) (take (m * N) s1)
+    pub ready-left : NodeReady p N w (take mid powers) (take m c) (take (m * N) s1)
     ready-left = record {
       prime = h .prime;
       small = h .small;
@@ -219,10 +217,10 @@ module _ (p N w : ℕ) (powers c s s1 : List ℕ) (h : Ready p N w powers c s) (
       below = take-below p (m * N) s1 seam-ok (sp .done .below);
       first = λ pos j l.
           let l′ : j < m = omega (arith, cl) in
-          ap (rem p pos) (getD-take (m * N) s1 (j * N) 0 (let z = row-before j m N l′ in omega arith) ∙ sp .done .first-low j l′) ∙ ap (λ f. f j) (sp .lines-low .is pos);
+          ap (rem p pos) (getD-take (m * N) s1 (j * N) 0 (let z = row-fits j m N l′ in omega arith) ∙ sp .done .first-low j l′) ∙ ap (λ f. f j) (sp .lines-low .is pos);
     }
 
-    pub ready-right : Ready p N w (drop mid powers) (drop m c) (drop (m * N) s1)
+    pub ready-right : NodeReady p N w (drop mid powers) (drop m c) (drop (m * N) s1)
     ready-right = record {
       prime = h .prime;
       small = h .small;
@@ -244,7 +242,7 @@ module _ (p N w : ℕ) (powers c s s1 : List ℕ) (h : Ready p N w powers c s) (
     module _ (x y new : List ℕ) (fx : Factored p N w (take mid powers) (take m c) (take (m * N) s1) x) (fy : Factored p N w (drop mid powers) (drop m c) (drop (m * N) s1) y)
         (nn : length new ≡ length s1) (new-low : (z : ℕ) → z < m * N → word new z ≡ word x z) (new-high : (z : ℕ) → word new (m * N + z) ≡ word y z) where
       low-row : (j t : ℕ) → j < m → t < N → word new (j * N + t) ≡ word x (j * N + t)
-      low-row j t l g = new-low (j * N + t) (let z = row-before j m N l in omega arith)
+      low-row j t l g = new-low (j * N + t) (let z = row-fits j m N l in omega arith)
 
       high-row : (j t : ℕ) → word new ((m + j) * N + t) ≡ word y (j * N + t)
       high-row j t = ap (word new) (let e = add-mulₙ m j N in let z : (m + j) * N + t ≡ m * N + (j * N + t) = omega arith in z) ∙ new-high (j * N + t)
@@ -370,7 +368,7 @@ module _ (p N w : ℕ) (powers c s s1 : List ℕ) (h : Ready p N w powers c s) (
           let pw : word (take mid powers) i ≡ word powers i = getD-take mid powers i 0 u in
           let si = S-left i (omega arith) in
           let z = sumTo-suc i (word powers) in let q = S-mono (suc i) mid u in
-          let cell : (S i + j) * N < m * N = let y = row-before (S i + j) m N (omega arith) in let w1 = wide in omega arith in
+          let cell : (S i + j) * N < m * N = let y = row-fits (S i + j) m N (omega arith) in let w1 = wide in omega arith in
           new-low ((S i + j) * N) cell ∙ ap (λ v. word x ((v + j) * N)) (sym si) ∙ fx .first i (omega (arith, nl)) j (omega arith)
           ∙ ap₂ (λ a b. linePower p (p - a) b j) (ap (word (take m c)) si ∙ getD-take m c (S i) 0 (omega arith)) pw)
           (λ (u : mid ≤ i).
@@ -412,11 +410,11 @@ module _ (p N w : ℕ) (powers c s s1 : List ℕ) (h : Ready p N w powers c s) (
         (λ z l. put-kept (m * N) v y le z l ∙ List·getD-append x (drop (m * N) s1) 0 z (omega arith))
         (λ z. sym (getD-drop (m * N) (putFrom (m * N) v y) z 0) ∙ ap (λ a. word a z) (put-drop (m * N) v y le))
 
-    pub ready-right-lent : (x : List ℕ) → length x ≡ m * N → Ready p N w (from powers mid) (from c m) (from (x ++ drop (m * N) s1) (m * N))
+    pub ready-right-lent : (x : List ℕ) → length x ≡ m * N → NodeReady p N w (from powers mid) (from c m) (from (x ++ drop (m * N) s1) (m * N))
     ready-right-lent x nx =
-        subst (λ a. Ready p N w a (from c m) (from (x ++ drop (m * N) s1) (m * N))) (sym (from-is powers mid))
-        (subst (λ a. Ready p N w (drop mid powers) a (from (x ++ drop (m * N) s1) (m * N))) (sym (from-is c m))
-        (subst (λ a. Ready p N w (drop mid powers) (drop m c) a) (sym (from-is (x ++ drop (m * N) s1) (m * N) ∙ drop-at x (drop (m * N) s1) (m * N) nx)) ready-right))
+        subst (λ a. NodeReady p N w a (from c m) (from (x ++ drop (m * N) s1) (m * N))) (sym (from-is powers mid))
+        (subst (λ a. NodeReady p N w (drop mid powers) a (from (x ++ drop (m * N) s1) (m * N))) (sym (from-is c m))
+        (subst (λ a. NodeReady p N w (drop mid powers) (drop m c) a) (sym (from-is (x ++ drop (m * N) s1) (m * N) ∙ drop-at x (drop (m * N) s1) (m * N) nx)) ready-right))
 
     pub left-size : length (take (m * N) s1) ≡ m * N
     left-size = nt

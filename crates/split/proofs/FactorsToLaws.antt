@@ -20,14 +20,14 @@ use Rattle.numbers.specs.Words.{word, tabulate, AllBelow}
 use Rattle.numbers.proofs.WordsLaws.{lt-or-ge, length-tabulate, word-tabulate, Writing, writing-none, true-false}
 use Rattle.rows.specs.Rows.{unit, monic}
 use Rattle.rows.proofs.MonicLaws.{monic-low, monic-top, monic-ext, by-place}
-use Rattle.rows.proofs.RowsLaws.{by-row}
-use Rattle.columns.proofs.ColumnLaws.{row-before}
-use Rattle.columns.proofs.SolveLaws.{line-power}
-use Rattle.split.specs.Factors.{rootPower, flat, split}
-use Rattle.split.proofs.FactorsLaws.{product-rem, product-lt, factors-ext}
-use Rattle.split.proofs.BlocksLaws.{Block, locate}
+use Rattle.rows.proofs.RowsLaws.{by-row, row-fits}
+use Rattle.hensel.specs.Factors.{rootPower, flat, split}
+use Rattle.hensel.proofs.FactorsLaws.{product-rem, product-lt, factors-ext}
+use Rattle.hensel.proofs.BlocksLaws.{Block, locate}
 use Rattle.algebra.specs.Solution.{lines, lines-zero, lines-ext, lines-append, lines-same, lines-top}
-use Rattle.split.specs.Table.{poly, rowsFrom, Roots, Ready, Factored, Spread, Lines, Listed, SplitsAtZero, Splitting, Cleared, FactorsTo, Found}
+use Rattle.rows.proofs.ShiftLaws.{root-power}
+use Rattle.solution.specs.Table.{poly, rowsFrom, Lines}
+use Rattle.split.specs.Found.{Roots, NodeReady, Factored, Spread, RootsListed, SplitsAtZero, Splitting, Cleared, FactorsTo, Found}
 use Rattle.split.proofs.FactorLaws.{prod-append}
 
 module _ (roots powers c : List ℕ) (sp : Spread roots powers (length powers) c) (n : length c ≡ sumTo (length powers) (word powers)) (some : (i : ℕ) → i < length powers → 1 ≤ word powers i)
@@ -79,9 +79,9 @@ split-rem : (p : ℕ) (pos : zero < p) (r : ℕ) (root power : ℕ → ℕ) → 
     → rem p pos (split p r root power j) ≡ prod (Series (Fp p pos)) r (λ i. linPow (Fp p pos) (rem p pos (root i)) (power i)) j
 split-rem p pos r root power low j =
     ap (λ f. f zero j) (product-rem p pos r (λ i. flat (rootPower p (root i) (power i))))
-    ∙ ap (λ f. f j) (prod-at-zero (Series (Fp p pos)) r (λ i. col p pos (flat (rootPower p (root i) (power i)))) ∙ prod-ext (Series (Fp p pos)) r (λ i l. line-power p pos (root i) (low i l) (power i)))
+    ∙ ap (λ f. f j) (prod-at-zero (Series (Fp p pos)) r (λ i. col p pos (flat (rootPower p (root i) (power i)))) ∙ prod-ext (Series (Fp p pos)) r (λ i l. root-power p pos (root i) (low i l) (power i)))
 
-pub spread-below : {p N w : ℕ} {roots powers s : List ℕ} → Listed p N w roots powers s → (c : List ℕ) → length c ≡ sumTo (length powers) (word powers) → Spread roots powers (length powers) c → AllBelow p c
+pub spread-below : {p N w : ℕ} {roots powers s : List ℕ} → RootsListed p N w roots powers s → (c : List ℕ) → length c ≡ sumTo (length powers) (word powers) → Spread roots powers (length powers) c → AllBelow p c
 spread-below {p} {N} {w} {roots} {powers} {s} h c n sp a l =
     let b = locate (length powers) (word powers) a (omega arith) in
     subst (λ v. v < p) (sym (ap (word c) (b .at) ∙ sp (b .block) (b .block-low) (b .row) (b .row-low))) (h .reduced (b .block) (let e = h .count in let z = b .block-low in omega arith))
@@ -93,7 +93,7 @@ module _ (p N w : ℕ) (roots powers s : List ℕ) (h : Splitting p N w roots po
   abbrev pos : zero < p
   pos = p-pos (h .listed .prime)
 
-  pub ready : Ready p N w powers c s
+  pub ready : NodeReady p N w powers c s
   ready = record {
     prime = h .listed .prime;
     small = h .listed .small;
@@ -117,7 +117,7 @@ module _ (p N w : ℕ) (roots powers s : List ℕ) (h : Splitting p N w roots po
   f-lt j t l g =
       let two = h .listed .prime .two-le in
       by-place (λ j. j ≤ D → monic D (rowsFrom 0 N s) j t < p) D
-      (λ j u _. subst (λ v. v < p) (sym (monic-low D (rowsFrom 0 N s) j t u ∙ ap (λ v. word s (v * N + t)) (zero-addₙ j))) (h .listed .below (j * N + t) (let z = row-before j D N u in let e = h .listed .long in omega arith)))
+      (λ j u _. subst (λ v. v < p) (sym (monic-low D (rowsFrom 0 N s) j t u ∙ ap (λ v. word s (v * N + t)) (zero-addₙ j))) (h .listed .below (j * N + t) (let z = row-fits j D N u in let e = h .listed .long in omega arith)))
       (λ _. subst (λ v. v < p) (sym (monic-top D (rowsFrom 0 N s) t)) (unit-lt t two))
       (λ j u v. absurd (let z : ⊥ = omega arith in z)) j l
     where
@@ -189,7 +189,7 @@ pub cleared-step : (N w rows j len : ℕ) (s e y : List ℕ) → w ≤ N → j <
     → Cleared N w (j + 1) s (take (j * N) e ++ (y ++ drop len (drop (j * N) e)))
 cleared-step N w rows j len s e y top l n el h ny kept none =
     let ne : length e ≡ rows * N = h .long ∙ n in
-    let room = row-before j rows N l in
+    let room = row-fits j rows N l in
     let na : length (take (j * N) e) ≡ j * N = length-take-le (j * N) e (omega arith) in
     let np : length (take len (drop (j * N) e)) ≡ N = ap (λ x. length (take x (drop (j * N) e))) el ∙ length-take-le N (drop (j * N) e) (omega (arith, length-drop (j * N) e)) in
     let ny′ : length y ≡ N = ny ∙ np in
@@ -201,10 +201,10 @@ cleared-step N w rows j len s e y top l n el h ny kept none =
       long = length-append (take (j * N) e) _ ∙ omega (arith, na, ny′, length-append y (drop len (drop (j * N) e)), length-drop len (drop (j * N) e), length-drop (j * N) e, h .long);
       kept = λ i g t u. ⊎-elim
           (λ (q : i ≡ j). subst (λ v. word new (v * N + t) ≡ word s (v * N + t)) (sym q) (at t (omega arith) ∙ kept t u ∙ old t (omega arith) ∙ h .past (j * N + t) (omega arith)))
-          (λ (q : i < j). low (i * N + t) (let z = row-before i j N q in omega arith) ∙ h .kept i q t u) (eq-or-lt-of-le {n = i} {m = j} (omega arith));
+          (λ (q : i < j). low (i * N + t) (let z = row-fits i j N q in omega arith) ∙ h .kept i q t u) (eq-or-lt-of-le {n = i} {m = j} (omega arith));
       none = λ i g t u v. ⊎-elim
           (λ (q : i ≡ j). subst (λ x. word new (x * N + t) ≡ 0) (sym q) (at t v ∙ none t u (omega (arith, np))))
-          (λ (q : i < j). low (i * N + t) (let z = row-before i j N q in omega arith) ∙ h .none i q t u v) (eq-or-lt-of-le {n = i} {m = j} (omega arith));
+          (λ (q : i < j). low (i * N + t) (let z = row-fits i j N q in omega arith) ∙ h .none i q t u v) (eq-or-lt-of-le {n = i} {m = j} (omega arith));
       past = λ z g.
           let d : (j + 1) * N ≡ j * N + N = omega arith in
           let z′ : j * N + (N + (z - (j * N + N))) ≡ z = omega arith in
@@ -225,7 +225,7 @@ module _ (p N w : ℕ) (roots powers s s1 : List ℕ) (h : Splitting p N w roots
   pub cleared-splitting : Splitting p N w roots powers s1
   cleared-splitting = record { listed = cleared-listed; splits = λ j l. h .splits j l ∙ sym (same-f j 0 (h .listed .terms-low)) }
     where
-      cleared-listed : Listed p N w roots powers s1
+      cleared-listed : RootsListed p N w roots powers s1
       cleared-listed = record {
         prime = h .listed .prime;
         small = h .listed .small;
@@ -242,7 +242,7 @@ module _ (p N w : ℕ) (roots powers s s1 : List ℕ) (h : Splitting p N w roots
         below = λ z l.
             let wide : 1 ≤ N = let a = h .listed .terms-low in let b = h .listed .terms-high in omega arith in
             by-row DD N (λ z. word s1 z < p) wide
-            (λ j a t g. ⊎-elim (λ (u : t < w). subst (λ v. v < p) (sym (cl .kept j a t u)) (h .listed .below (j * N + t) (let y = row-before j DD N a in let e = h .listed .long in omega arith)))
+            (λ j a t g. ⊎-elim (λ (u : t < w). subst (λ v. v < p) (sym (cl .kept j a t u)) (h .listed .below (j * N + t) (let y = row-fits j DD N a in let e = h .listed .long in omega arith)))
             (λ (u : w ≤ t). subst (λ v. v < p) (sym (cl .none j a t u g)) (p-pos (h .listed .prime))) (lt-or-ge t w)) z (let e = h .listed .long in let c = cl .long in omega arith);
       }
 
@@ -263,11 +263,11 @@ clear-none w t e g h i lo hi =
 
 pub lent-row : (N rows j len : ℕ) (e : List ℕ) → j < rows → length e ≡ rows * N → len ≡ N → length (take len (drop (j * N) e)) ≡ N
 lent-row N rows j len e l n q =
-    let z = row-before j rows N l in
+    let z = row-fits j rows N l in
     ap (λ x. length (take x (drop (j * N) e))) q ∙ length-take-le N (drop (j * N) e) (omega (arith, length-drop (j * N) e))
 
 -- The product of the lines of all roots, as words, is the product of the powers.
-module _ (p N w : ℕ) (roots powers s : List ℕ) (h : Listed p N w roots powers s) (c : List ℕ) (n : length c ≡ sumTo (length powers) (word powers))
+module _ (p N w : ℕ) (roots powers s : List ℕ) (h : RootsListed p N w roots powers s) (c : List ℕ) (n : length c ≡ sumTo (length powers) (word powers))
     (sp : Spread roots powers (length powers) c) (line : List ℕ) (ln : Lines p c line) where
   abbrev D₀ : ℕ
   D₀ = sumTo (length powers) (word powers)

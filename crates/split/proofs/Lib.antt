@@ -1,11 +1,2 @@
-pub mod BlocksLaws
-pub mod FactorsLaws
-pub mod DigitsLaws
-pub mod TableLaws
-pub mod StepLaws
-pub mod NodeLaws
 pub mod FactorLaws
 pub mod FactorsToLaws
-pub mod TileLaws
-pub mod WeightsLaws
-pub mod TiledLaws

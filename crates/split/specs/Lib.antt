@@ -1,5 +1,1 @@
-pub mod Factors
-pub mod Table
-pub mod Tile
-pub mod Weights
-pub mod Tiled
+pub mod Found

@@ -1,16 +1,17 @@
 // The factors of a polynomial: its roots are split in two near half the degree, until each stands alone with its power.
 use crate::node::split_node;
-use crate::solution::product_of;
+use solution::product_of;
 ghost use mathlib.Core.Path.{_≡_};
 ghost use Prim.Native.Nat.{ℕ, _+_, _-_, _*_, _≤_, _<_};
 ghost use lib.ListN.{length};
 ghost use Rattle.algebra.specs.Sums.{sumTo};
 ghost use Rattle.numbers.specs.Words.{Decides, word, tabulate};
-ghost use Rattle.split.specs.Table.{Ready, Factored, Spread, Cleared, Listed, Found};
+ghost use Rattle.numbers.specs.Limits.{largestDegree, mostRows, largestWidth};
+ghost use Rattle.split.specs.Found.{NodeReady, Factored, Spread, Cleared, RootsListed, Found};
 
 // The sum of the powers.
 fn total(powers: &[u32]) -> usize
-    requires { ⌜ sumTo (length (now powers)) (word (now powers)) ≤ 32 ⌝ }
+    requires { ⌜ sumTo (length (now powers)) (word (now powers)) ≤ largestDegree ⌝ }
     ensures { λ r. ⌜ r ≡ sumTo (length (now (powers .entry))) (word (now (powers .entry))) ⌝ }
 {
     let mut sum = 0;
@@ -24,7 +25,7 @@ fn total(powers: &[u32]) -> usize
 
 // How many groups to split off: near half the degree.
 fn half(powers: &[u32], degree: usize) -> usize
-    requires { ⌜ (2 ≤ length (now powers)) × (length (now powers) ≤ 32) × ((i : ℕ) → i < length (now powers) → word (now powers) i ≤ 32) ⌝ }
+    requires { ⌜ (2 ≤ length (now powers)) × (length (now powers) ≤ largestDegree) × ((i : ℕ) → i < length (now powers) → word (now powers) i ≤ largestDegree) ⌝ }
     ensures { λ r. ⌜ (1 ≤ r) × (r < length (now (powers .entry))) ⌝ }
 {
     let mut i = 1;
@@ -41,7 +42,7 @@ fn half(powers: &[u32], degree: usize) -> usize
 
 // The rows of a polynomial become those of its factors, to w terms.
 fn factor_rows(p: u32, powers: &[u32], c: &[u32], n: usize, w: usize, rows: &mut [u32])
-    requires { ⌜ Ready p n w (now powers) (now c) (now rows) ⌝ }
+    requires { ⌜ NodeReady p n w (now powers) (now c) (now rows) ⌝ }
     ensures { λ _. ⌜ Factored p n w (now (powers .entry)) (now (c .entry)) (now (rows .entry)) (now (rows .exit)) ⌝ }
 {
     if powers.len() < 2 {
@@ -68,7 +69,7 @@ fn repeat(x: u32, out: &mut [u32])
 
 // The roots, each as often as its power says.
 fn spread(roots: &[u32], powers: &[u32], c: &mut [u32])
-    requires { ⌜ (length (now roots) ≡ length (now powers)) × (sumTo (length (now powers)) (word (now powers)) ≤ 32) × (length (now c) ≡ sumTo (length (now powers)) (word (now powers))) ⌝ }
+    requires { ⌜ (length (now roots) ≡ length (now powers)) × (sumTo (length (now powers)) (word (now powers)) ≤ largestDegree) × (length (now c) ≡ sumTo (length (now powers)) (word (now powers))) ⌝ }
     ensures long { λ _. ⌜ length (now (c .exit)) ≡ length (now (c .entry)) ⌝ }
     ensures is { λ _. ⌜ Spread (now (roots .entry)) (now (powers .entry)) (length (now (powers .entry))) (now (c .exit)) ⌝ }
 {
@@ -98,7 +99,7 @@ fn clear_row(w: usize, row: &mut [u32])
 
 // 0 from column w on, in every row.
 fn clear(n: usize, w: usize, d: usize, rows: &mut [u32])
-    requires { ⌜ (w ≤ n) × (n ≤ 256) × (d ≤ 33) × (length (now rows) ≡ d * n) ⌝ }
+    requires { ⌜ (w ≤ n) × (n ≤ largestWidth) × (d ≤ mostRows) × (length (now rows) ≡ d * n) ⌝ }
     ensures { λ _. ⌜ Cleared n w d (now (rows .entry)) (now (rows .exit)) ⌝ }
 {
     let mut j = 0;
@@ -112,7 +113,7 @@ fn clear(n: usize, w: usize, d: usize, rows: &mut [u32])
 
 // Whether column 0 of the rows is that of the polynomial in `line`, whose last word is left out.
 fn begins(n: usize, line: &[u32], rows: &[u32]) -> bool
-    requires { ⌜ (1 ≤ n) × (n ≤ 256) × (1 ≤ length (now line)) × (length (now line) ≤ 33) × (length (now rows) ≡ (length (now line) - 1) * n) ⌝ }
+    requires { ⌜ (1 ≤ n) × (n ≤ largestWidth) × (1 ≤ length (now line)) × (length (now line) ≤ mostRows) × (length (now rows) ≡ (length (now line) - 1) * n) ⌝ }
     ensures { λ b. ⌜ Decides b ((j : ℕ) → j + 1 < length (now (line .entry)) → word (now (rows .entry)) (j * n) ≡ word (now (line .entry)) j) ⌝ }
 {
     let mut j = 0;
@@ -137,7 +138,7 @@ pub fn find_factors(
     line: &mut [u32],
     rows: &mut [u32],
 ) -> bool
-    requires { ⌜ Listed p n w (now roots) (now powers) (now rows) × (length (now c) ≡ sumTo (length (now powers)) (word (now powers))) × (length (now line) ≡ sumTo (length (now powers)) (word (now powers)) + 1) ⌝ }
+    requires { ⌜ RootsListed p n w (now roots) (now powers) (now rows) × (length (now c) ≡ sumTo (length (now powers)) (word (now powers))) × (length (now line) ≡ sumTo (length (now powers)) (word (now powers)) + 1) ⌝ }
     ensures { λ found. ⌜ Found p n w (now (roots .entry)) (now (powers .entry)) (now (rows .entry)) found (now (rows .exit)) ⌝ }
 {
     spread(roots, powers, c);

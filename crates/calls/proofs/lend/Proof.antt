@@ -42,7 +42,9 @@ loop-less : tie.Need-loop-less Inv-loop μ-loop
 loop-less c = search needs
 
 loop-again : tie.Need-loop-again Inv-loop μ-loop
-loop-again c = (search needs, below-more (λ k. word (c .before .before .before .before .args .lent .now) k ≤ c .before .before .before .before .args .size) _ (c .before .before .before .loop .inv .1) (c .if1 .left))
+loop-again c =
+    let a = c .before .before .before .before .args in
+    (search needs, below-more (λ k. word (a .lent .now) k ≤ a .size) _ (c .before .before .before .loop .inv .1) (c .if1 .left))
 
 returns-2 : tie.Need-returns-2 Inv-loop μ-loop
 returns-2 c = sym (at-allTo _ _ (λ k l. le-leb _ _ (c .before .loop .inv .1 k (omega arith))))

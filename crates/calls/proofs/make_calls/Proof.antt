@@ -18,6 +18,10 @@ Inv-loop lent goals sheet₀ answers₀ i₀ sheet answers i = (i ≤ length len
 abbrev μ-loop : tie.MeasureT-loop
 μ-loop lent goals sheet₀ answers₀ i₀ sheet answers i = length lent - i
 
+-- what call i lends is there
+there : (b : tie.In-loop Inv-loop μ-loop) → word (b .before .before .before .before .before .before .args .lent .now) (b .before .loop .i) ≤ length (b .before .loop .sheet)
+there b = let s = b .before .loop .inv .1 .sheet in let f = b .before .before .before .before .before .before .pre .2 (b .before .loop .i) (omega arith) in omega arith
+
 loop-holds : tie.Need-loop-holds Inv-loop μ-loop
 loop-holds c = (omega arith, made-none _ _ _ _)
 
@@ -31,10 +35,10 @@ cast-words : tie.Need-cast-words Inv-loop μ-loop
 cast-words c = omega (arith, c .shared-slice-known3 .given (c .before .before .loop .i))
 
 slice-relend-prefix-extend : tie.Need-slice-relend-prefix-extend Inv-loop μ-loop
-slice-relend-prefix-extend c = let s = c .before .before .loop .inv .1 .sheet in let f = c .before .before .before .before .before .before .before .pre .2 (c .before .before .loop .i) (omega arith) in omega arith
+slice-relend-prefix-extend c = there (c .before)
 
 slice-aggregate-extend : tie.Need-slice-aggregate-extend Inv-loop μ-loop
-slice-aggregate-extend c = let s = c .before .before .before .loop .inv .1 .sheet in let f = c .before .before .before .before .before .before .before .before .pre .2 (c .before .before .before .loop .i) (omega arith) in sym (length-take-le (word (c .before .before .before .before .before .before .before .before .args .lent .now) (c .before .before .before .loop .i)) (c .before .before .before .loop .sheet) (omega arith))
+slice-aggregate-extend c = let b = c .before .before in sym (length-take-le (word (b .before .before .before .before .before .before .args .lent .now) (b .before .loop .i)) (b .before .loop .sheet) (there b))
 
 mul-extend : tie.Need-mul-extend Inv-loop μ-loop
 mul-extend c = search needs
@@ -56,8 +60,13 @@ loop-less c = search needs
 
 loop-again : tie.Need-loop-again Inv-loop μ-loop
 loop-again c =
-    let a = c .before .before .before .before .before .before .before .before .before .before .before .before .before .before .before .before .args in
-    (omega arith, made-more (c .before .before .before .before .before .before .before .before .before .before .before .loop .i) (a .lent .now) (a .goals .now) (a .sheet .now) _ (a .answers .now) _ (c .before .before .before .before .before .before .before .before .before .before .before .loop .inv .1) _ _ _ (c .before .before .before .before .before .before .before .before .before .before .before .before .before .before .before .before .pre .2 (c .before .before .before .before .before .before .before .before .before .before .before .loop .i) (omega arith)) (let q = c .before .before .before .before .before .before .before .before .before .before .before .before .before .before .before .before .pre .1 in omega arith) (c .before .before .before .before .before .before .extend .ensures) (c .before .before .put-answer .ensures))
+    let t = c .before .before .before .before .before .before .before .before .before .before .before .before .before .before .before .before in
+    let a = t .args in
+    let l = c .before .before .before .before .before .before .before .before .before .before .before .loop in
+    let q = t .pre .1 in (
+      omega arith,
+      made-more (l .i) (a .lent .now) (a .goals .now) (a .sheet .now) _ (a .answers .now) _ (l .inv .1) _ _ _ (t .pre .2 (l .i) (omega arith)) (omega arith) (c .before .before .before .before .before .before .extend .ensures) (c .before .before .put-answer .ensures),
+    )
 
 same-length : tie.Need-same-length Inv-loop μ-loop
 same-length c = search needs

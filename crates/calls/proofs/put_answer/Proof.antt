@@ -23,13 +23,17 @@ same-length : tie.Need-same-length
 same-length c = search needs
 
 returns : tie.Need-returns
-returns c = c .before .before .put-pair .ensures ∙ sym (ap (λ o. putAnswer (outcome o) (c .before .before .before .before .before .before .before .before .args .i) (c .before .before .before .before .before .before .before .before .args .answers .now)) (c .before .before .before .before .before .answer .given .1))
+returns c =
+    let a = c .before .before .before .before .before .before .before .before .args in
+    c .before .before .put-pair .ensures ∙ sym (ap (λ o. putAnswer (outcome o) (a .i) (a .answers .now)) (c .before .before .before .before .before .answer .given .1))
 
 same-length-2 : tie.Need-same-length-2
 same-length-2 c = search needs
 
 returns-2 : tie.Need-returns-2
-returns-2 c = c .before .before .put-pair2 .ensures ∙ sym (ap (λ o. putAnswer (outcome o) (c .before .before .before .before .before .before .before .before .args .i) (c .before .before .before .before .before .before .before .before .args .answers .now)) (c .before .before .before .before .before .answer2 .given .1))
+returns-2 c =
+    let a = c .before .before .before .before .before .before .before .before .args in
+    c .before .before .put-pair2 .ensures ∙ sym (ap (λ o. putAnswer (outcome o) (a .i) (a .answers .now)) (c .before .before .before .before .before .answer2 .given .1))
 
 pub put-answer-spec : {M : Type 1} → statement M
 put-answer-spec =

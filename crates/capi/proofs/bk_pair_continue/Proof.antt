@@ -16,7 +16,9 @@ same-length : tie.Need-same-length
 same-length c = search needs
 
 returns : tie.Need-returns
-returns c = (c .pack .ensures ∙ ap packed (c .before .before .before .pair-continue .ensures .answers), c .before .before .before .pair-continue .ensures .leaves)
+returns c =
+    let pair = c .before .before .before .pair-continue in
+    (c .pack .ensures ∙ ap packed (pair .ensures .answers), pair .ensures .leaves)
 
 pub bk-pair-continue-spec : {M : Type 1} → statement M
 bk-pair-continue-spec =

@@ -6,8 +6,8 @@ use borrow.Author.Needs.{needs}
 use Rattle.capi.proofs.bk_rows_product.Statement.{statement}
 use Rattle.capi.proofs.bk_rows_product.Tie as tie
 
-multiply-requires : tie.Need-multiply-requires
-multiply-requires c κs = search needs
+product-requires : tie.Need-product-requires
+product-requires c κs = search needs
 
 pack-requires : tie.Need-pack-requires
 pack-requires c κs = search needs
@@ -16,7 +16,7 @@ same-length : tie.Need-same-length
 same-length c = search needs
 
 returns : tie.Need-returns
-returns c = (c .pack .ensures ∙ ap packed (c .before .before .before .multiply .ensures .0), c .before .before .before .multiply .ensures .1)
+returns c = (c .pack .ensures ∙ ap packed (c .before .before .before .product .ensures .0), c .before .before .before .product .ensures .1)
 
 pub bk-rows-product-spec : {M : Type 1} → statement M
-bk-rows-product-spec = tie.close (tie.spec multiply-requires pack-requires same-length returns)
+bk-rows-product-spec = tie.close (tie.spec product-requires pack-requires same-length returns)

@@ -6,8 +6,8 @@ use borrow.Author.Needs.{needs}
 use Rattle.capi.proofs.bk_series_inverse.Statement.{statement}
 use Rattle.capi.proofs.bk_series_inverse.Tie as tie
 
-invert-requires : tie.Need-invert-requires
-invert-requires c κs = search needs
+inverse-requires : tie.Need-inverse-requires
+inverse-requires c κs = search needs
 
 pack-requires : tie.Need-pack-requires
 pack-requires c κs = search needs
@@ -16,7 +16,7 @@ same-length : tie.Need-same-length
 same-length c = search needs
 
 returns : tie.Need-returns
-returns c = (c .pack .ensures ∙ ap packed (c .before .before .before .invert .ensures .0), c .before .before .before .invert .ensures .1)
+returns c = (c .pack .ensures ∙ ap packed (c .before .before .before .inverse .ensures .0), c .before .before .before .inverse .ensures .1)
 
 pub bk-series-inverse-spec : {M : Type 1} → statement M
-bk-series-inverse-spec = tie.close (tie.spec invert-requires pack-requires same-length returns)
+bk-series-inverse-spec = tie.close (tie.spec inverse-requires pack-requires same-length returns)

@@ -6,8 +6,8 @@ use borrow.Author.Needs.{needs}
 use Rattle.capi.proofs.bk_series_quotient.Statement.{statement}
 use Rattle.capi.proofs.bk_series_quotient.Tie as tie
 
-divide-requires : tie.Need-divide-requires
-divide-requires c κs = search needs
+quotient-requires : tie.Need-quotient-requires
+quotient-requires c κs = search needs
 
 pack-requires : tie.Need-pack-requires
 pack-requires c κs = search needs
@@ -16,7 +16,7 @@ same-length : tie.Need-same-length
 same-length c = search needs
 
 returns : tie.Need-returns
-returns c = (c .pack .ensures ∙ ap packed (c .before .before .before .divide .ensures .0), c .before .before .before .divide .ensures .1)
+returns c = (c .pack .ensures ∙ ap packed (c .before .before .before .quotient .ensures .0), c .before .before .before .quotient .ensures .1)
 
 pub bk-series-quotient-spec : {M : Type 1} → statement M
-bk-series-quotient-spec = tie.close (tie.spec divide-requires pack-requires same-length returns)
+bk-series-quotient-spec = tie.close (tie.spec quotient-requires pack-requires same-length returns)

@@ -19,7 +19,9 @@ same-length-2 : tie.Need-same-length-2
 same-length-2 c = search needs
 
 returns : tie.Need-returns
-returns c = (c .pack .ensures ∙ ap packed (c .before .before .before .before .before .replay .ensures .answers), c .before .before .before .before .before .replay .ensures .leaves)
+returns c =
+    let replay = c .before .before .before .before .before .replay in
+    (c .pack .ensures ∙ ap packed (replay .ensures .answers), replay .ensures .leaves)
 
 pub bk-sheet-replay-spec : {M : Type 1} → statement M
 bk-sheet-replay-spec =

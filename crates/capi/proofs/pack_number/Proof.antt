@@ -2,7 +2,7 @@
 -- Assumes nothing.
 use Rattle.capi.specs.Packed.{packed, packedNumber}
 use mathlib.Core.Path.{_≡_, sym, ap, _∙_}
-use Rattle.numbers.specs.Number.{numberOutcome}
+use Rattle.residues.specs.Number.{numberOutcome}
 use borrow.Author.Needs.{needs}
 use Rattle.capi.proofs.pack_number.Statement.{statement}
 use Rattle.capi.proofs.pack_number.Tie as tie

@@ -38,7 +38,9 @@ part-digit-end : tie.Need-part-digit-end Inv-loop μ-loop
 part-digit-end c = search needs
 
 digit-requires : tie.Need-digit-requires Inv-loop μ-loop
-digit-requires c κs = (omega arith, omega arith, omega arith, omega arith, omega (arith, length-from (c .before .before .loop .e) (c .before .before .loop .i)), c .before .before .before .before .before .pre .5, from-below (c .before .before .before .before .before .args .p) (c .before .before .loop .e) (c .before .before .loop .i) (c .before .before .loop .inv .2))
+digit-requires c κs =
+    let l = c .before .before .loop in
+    (omega arith, omega arith, omega arith, omega arith, omega (arith, length-from (l .e) (l .i)), c .before .before .before .before .before .pre .5, from-below (c .before .before .before .before .before .args .p) (l .e) (l .i) (l .inv .2))
 
 add-i : tie.Need-add-i Inv-loop μ-loop
 add-i c = search needs

@@ -6,7 +6,8 @@ use native.Mathlib.Omega.{arith}
 use lib.ListN.{length}
 use Rattle.numbers.specs.Words.{word, tabulate}
 use Rattle.numbers.proofs.WordsLaws.{length-tabulate, over-whole, Writing, writing-none, writing-next, writing-all}
-use Rattle.columns.proofs.ColumnLaws.{row-before, gatherAt}
+use Rattle.rows.proofs.RowsLaws.{row-fits}
+use Rattle.columns.proofs.ColumnLaws.{gatherAt}
 use borrow.Author.Needs.{needs}
 use Rattle.columns.proofs.gather.Statement.{statement}
 use Rattle.columns.proofs.gather.Tie as tie
@@ -17,6 +18,10 @@ Inv-loop p f low m high k n t e₀ j₀ e j = (j ≤ length e₀) × (length e �
 abbrev μ-loop : tie.MeasureT-loop
 μ-loop p f low m high k n t e₀ j₀ e j = length e₀ - j
 
+-- where the function begins, seen from later places
+abbrev start : (b : tie.In-loop Inv-loop μ-loop) → tie.Start Inv-loop μ-loop
+start b = b .before .before .before .before .before .before
+
 loop-holds : tie.Need-loop-holds Inv-loop μ-loop
 unfolding tabulate
 loop-holds c = (omega arith, omega arith, writing-none _)
@@ -25,22 +30,22 @@ sub-passes : tie.Need-sub-passes Inv-loop μ-loop
 sub-passes c = search needs
 
 passes-requires : tie.Need-passes-requires Inv-loop μ-loop
-passes-requires c κs = let r = c .before .before .before .before .before .before .pre in (r .7, r .8, omega arith, omega arith, omega arith, omega arith, omega arith, λ k l. omega (arith, r .12 k l), λ k l. omega (arith, r .13 k l))
+passes-requires c κs = let r = start c .pre in (r .7, r .8, omega arith, omega arith, omega arith, omega arith, omega arith, λ k l. omega (arith, r .12 k l), λ k l. omega (arith, r .13 k l))
 
 mul-less : tie.Need-mul-less Inv-loop μ-loop
-mul-less c = let a = c .before .before .before .before .before .before .before .args in omega (arith, row-before (c .before .before .loop .j) (length (a .e .now)) (a .n) (omega arith))
+mul-less c = let a = start (c .before) .args in omega (arith, row-fits (c .before .before .loop .j) (length (a .e .now)) (a .n) (omega arith))
 
 add-less : tie.Need-add-less Inv-loop μ-loop
-add-less c = let a = c .before .before .before .before .before .before .before .args in omega (arith, row-before (c .before .before .loop .j) (length (a .e .now)) (a .n) (omega arith))
+add-less c = let a = start (c .before) .args in omega (arith, row-fits (c .before .before .loop .j) (length (a .e .now)) (a .n) (omega arith))
 
 mul-less-2 : tie.Need-mul-less-2 Inv-loop μ-loop
-mul-less-2 c = let a = c .before .before .before .before .before .before .before .args in omega (arith, row-before (c .before .before .loop .j) (length (a .e .now)) (a .n) (omega arith))
+mul-less-2 c = let a = start (c .before) .args in omega (arith, row-fits (c .before .before .loop .j) (length (a .e .now)) (a .n) (omega arith))
 
 shared-slice-read-less : tie.Need-shared-slice-read-less Inv-loop μ-loop
-shared-slice-read-less c = let a = c .before .before .before .before .before .before .before .before .args in omega (arith, row-before (c .before .before .before .loop .j) (length (a .e .now)) (a .n) (omega arith))
+shared-slice-read-less c = let a = start (c .before .before) .args in omega (arith, row-fits (c .before .before .before .loop .j) (length (a .e .now)) (a .n) (omega arith))
 
 less-requires : tie.Need-less-requires Inv-loop μ-loop
-less-requires c κs = let a = c .before .before .before .before .before .before .before .before .args in let r = c .before .before .before .before .before .before .before .before .pre in (r .0, r .1, r .11 (c .before .before .before .loop .j * a .n + a .t) (omega (arith, row-before (c .before .before .before .loop .j) (length (a .e .now)) (a .n) (omega arith))))
+less-requires c κs = let a = start (c .before .before) .args in let r = start (c .before .before) .pre in (r .0, r .1, r .11 (c .before .before .before .loop .j * a .n + a .t) (omega (arith, row-fits (c .before .before .before .loop .j) (length (a .e .now)) (a .n) (omega arith))))
 
 mul-e : tie.Need-mul-e Inv-loop μ-loop
 mul-e c = search needs
@@ -56,9 +61,10 @@ loop-less c = search needs
 
 loop-again : tie.Need-loop-again Inv-loop μ-loop
 loop-again c =
-    let a = c .before .before .before .before .before .before .before .before .before .args in
-    let v = c .less .ensures ∙ ap (λ (x : ℕ). (word (a .f .now) (c .before .before .before .before .loop .j * a .n + a .t) + (a .p - x % a .p)) % a .p) (c .before .before .passes .ensures) in
-    let w = writing-next _ (gatherAt (a .p) (a .f .now) (a .low .now) (a .m) (a .high .now) (a .k) (a .n) (a .t)) _ _ _ (c .before .before .before .before .loop .inv .2) v (omega arith) in
+    let l = c .before .before .before .before .loop in
+    let a = start (c .before .before .before) .args in
+    let v = c .less .ensures ∙ ap (λ (x : ℕ). (word (a .f .now) (l .j * a .n + a .t) + (a .p - x % a .p)) % a .p) (c .before .before .passes .ensures) in
+    let w = writing-next _ (gatherAt (a .p) (a .f .now) (a .low .now) (a .m) (a .high .now) (a .k) (a .n) (a .t)) _ _ _ (l .inv .2) v (omega arith) in
     (omega arith, w .long, w)
 
 same-length : tie.Need-same-length Inv-loop μ-loop

@@ -49,16 +49,23 @@ cast-e-2 : tie.Need-cast-e-2 Inv-loop μ-loop
 cast-e-2 c = omega (arith, c .before .slice-known .given (c .before .before .before .loop .j - 1 + 1))
 
 mul-e-3 : tie.Need-mul-e-3 Inv-loop μ-loop
-mul-e-3 c = omega (arith, product-fits (c .before .before .before .before .args .c) (word (c .before .before .before .loop .e) (c .before .before .before .loop .j - 1 + 1)) (omega arith) (omega (arith, c .before .slice-known .given (c .before .before .before .loop .j - 1 + 1))))
+mul-e-3 c =
+    let l = c .before .before .before .loop in
+    omega (arith, product-fits (c .before .before .before .before .args .c) (word (l .e) (l .j - 1 + 1)) (omega arith) (omega (arith, c .before .slice-known .given (l .j - 1 + 1))))
 
 add-e-2 : tie.Need-add-e-2 Inv-loop μ-loop
-add-e-2 c = omega (arith, c .before .slice-known .given (c .before .before .before .loop .j - 1), product-fits (c .before .before .before .before .args .c) (word (c .before .before .before .loop .e) (c .before .before .before .loop .j - 1 + 1)) (omega arith) (omega (arith, c .before .slice-known .given (c .before .before .before .loop .j - 1 + 1))))
+add-e-2 c =
+    let l = c .before .before .before .loop in
+    omega (arith, c .before .slice-known .given (l .j - 1), product-fits (c .before .before .before .before .args .c) (word (l .e) (l .j - 1 + 1)) (omega arith) (omega (arith, c .before .slice-known .given (l .j - 1 + 1))))
 
 rem-e : tie.Need-rem-e Inv-loop μ-loop
 rem-e c = search needs
 
 cast-e-3 : tie.Need-cast-e-3 Inv-loop μ-loop
-cast-e-3 c = omega (arith, mod-lt (word (c .before .before .before .loop .e) (c .before .before .before .loop .j - 1) + c .before .before .before .before .args .c * word (c .before .before .before .loop .e) (c .before .before .before .loop .j - 1 + 1)) {m = c .before .before .before .before .args .p} (omega arith))
+cast-e-3 c =
+    let l = c .before .before .before .loop in
+    let a = c .before .before .before .before .args in
+    omega (arith, mod-lt (word (l .e) (l .j - 1) + a .c * word (l .e) (l .j - 1 + 1)) {m = a .p} (omega arith))
 
 mul-e-4 : tie.Need-mul-e-4 Inv-loop μ-loop
 mul-e-4 c = search needs

@@ -47,7 +47,9 @@ cast-e : tie.Need-cast-e Inv-loop μ-loop
 cast-e c = omega (arith, c .slice-known .given (c .before .before .before .loop .j))
 
 sub-e : tie.Need-sub-e Inv-loop μ-loop
-sub-e c = omega (arith, mod-lt (c .before .before .before .before .args .q * word (c .before .before .before .before .args .a .now) (c .before .before .before .loop .j)) {m = c .before .before .before .before .args .p} (omega arith))
+sub-e c =
+    let a = c .before .before .before .before .args in
+    omega (arith, mod-lt (a .q * word (a .a .now) (c .before .before .before .loop .j)) {m = a .p} (omega arith))
 
 add-e : tie.Need-add-e Inv-loop μ-loop
 add-e c = omega (arith, c .slice-known .given (c .before .before .before .loop .j))
@@ -56,7 +58,10 @@ rem-e : tie.Need-rem-e Inv-loop μ-loop
 rem-e c = search needs
 
 cast-e-2 : tie.Need-cast-e-2 Inv-loop μ-loop
-cast-e-2 c = omega (arith, mod-lt (word (c .before .before .before .loop .e) (c .before .before .before .loop .j) + (c .before .before .before .before .args .p - c .before .before .before .before .args .q * word (c .before .before .before .before .args .a .now) (c .before .before .before .loop .j) % c .before .before .before .before .args .p)) {m = c .before .before .before .before .args .p} (omega arith))
+cast-e-2 c =
+    let l = c .before .before .before .loop in
+    let a = c .before .before .before .before .args in
+    omega (arith, mod-lt (word (l .e) (l .j) + (a .p - a .q * word (a .a .now) (l .j) % a .p)) {m = a .p} (omega arith))
 
 mul-e-2 : tie.Need-mul-e-2 Inv-loop μ-loop
 mul-e-2 c = search needs
@@ -71,7 +76,10 @@ loop-less : tie.Need-loop-less Inv-loop μ-loop
 loop-less c = search needs
 
 loop-again : tie.Need-loop-again Inv-loop μ-loop
-loop-again c = (omega arith, writing-next _ _ _ _ _ (c .before .before .before .loop .inv .1) (less-turn (c .before .before .before .before .args .p) (c .before .before .before .before .args .q) (c .before .before .before .before .args .a .now) (c .before .before .before .before .args .e .now) (c .before .before .before .loop .e) (c .before .before .before .loop .j) (c .before .before .before .loop .inv .1)) (omega arith))
+loop-again c =
+    let l = c .before .before .before .loop in
+    let a = c .before .before .before .before .args in
+    (omega arith, writing-next _ _ _ _ _ (l .inv .1) (less-turn (a .p) (a .q) (a .a .now) (a .e .now) (l .e) (l .j) (l .inv .1)) (omega arith))
 
 same-length : tie.Need-same-length Inv-loop μ-loop
 same-length c = search needs

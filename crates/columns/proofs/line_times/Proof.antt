@@ -51,16 +51,25 @@ cast-e-3 : tie.Need-cast-e-3 Inv-loop μ-loop
 cast-e-3 c = omega (arith, c .before .slice-known .given (c .before .before .before .loop .j + 1))
 
 mul-e-3 : tie.Need-mul-e-3 Inv-loop μ-loop
-mul-e-3 c = omega (arith, product-fits (c .before .before .before .before .args .p - c .before .before .before .before .args .c) (word (c .before .before .before .loop .e) (c .before .before .before .loop .j + 1)) (omega arith) (omega (arith, c .before .slice-known .given (c .before .before .before .loop .j + 1))))
+mul-e-3 c =
+    let l = c .before .before .before .loop in
+    let a = c .before .before .before .before .args in
+    omega (arith, product-fits (a .p - a .c) (word (l .e) (l .j + 1)) (omega arith) (omega (arith, c .before .slice-known .given (l .j + 1))))
 
 add-e-2 : tie.Need-add-e-2 Inv-loop μ-loop
-add-e-2 c = omega (arith, c .before .slice-known .given (c .before .before .before .loop .j), product-fits (c .before .before .before .before .args .p - c .before .before .before .before .args .c) (word (c .before .before .before .loop .e) (c .before .before .before .loop .j + 1)) (omega arith) (omega (arith, c .before .slice-known .given (c .before .before .before .loop .j + 1))))
+add-e-2 c =
+    let l = c .before .before .before .loop in
+    let a = c .before .before .before .before .args in
+    omega (arith, c .before .slice-known .given (l .j), product-fits (a .p - a .c) (word (l .e) (l .j + 1)) (omega arith) (omega (arith, c .before .slice-known .given (l .j + 1))))
 
 rem-e : tie.Need-rem-e Inv-loop μ-loop
 rem-e c = search needs
 
 cast-e-4 : tie.Need-cast-e-4 Inv-loop μ-loop
-cast-e-4 c = omega (arith, mod-lt (word (c .before .before .before .loop .e) (c .before .before .before .loop .j) + (c .before .before .before .before .args .p - c .before .before .before .before .args .c) * word (c .before .before .before .loop .e) (c .before .before .before .loop .j + 1)) {m = c .before .before .before .before .args .p} (omega arith))
+cast-e-4 c =
+    let l = c .before .before .before .loop in
+    let a = c .before .before .before .before .args in
+    omega (arith, mod-lt (word (l .e) (l .j) + (a .p - a .c) * word (l .e) (l .j + 1)) {m = a .p} (omega arith))
 
 mul-e-4 : tie.Need-mul-e-4 Inv-loop μ-loop
 mul-e-4 c = search needs
@@ -75,7 +84,10 @@ loop-less : tie.Need-loop-less Inv-loop μ-loop
 loop-less c = search needs
 
 loop-again : tie.Need-loop-again Inv-loop μ-loop
-loop-again c = (omega arith, writing-next _ _ _ _ _ (c .before .before .before .loop .inv .1) (line-turn (c .before .before .before .before .args .p) (c .before .before .before .before .args .c) (c .before .before .before .before .args .e .now) (c .before .before .before .loop .e) (c .before .before .before .loop .j) (c .before .before .before .loop .inv .1)) (omega arith))
+loop-again c =
+    let l = c .before .before .before .loop in
+    let a = c .before .before .before .before .args in
+    (omega arith, writing-next _ _ _ _ _ (l .inv .1) (line-turn (a .p) (a .c) (a .e .now) (l .e) (l .j) (l .inv .1)) (omega arith))
 
 same-length : tie.Need-same-length Inv-loop μ-loop
 same-length c = search needs

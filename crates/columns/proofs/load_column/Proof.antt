@@ -6,7 +6,7 @@ use native.Mathlib.Omega.{arith}
 use lib.ListN.{length}
 use Rattle.numbers.specs.Words.{word, tabulate}
 use Rattle.numbers.proofs.WordsLaws.{length-tabulate, over-whole, Writing, writing-none, writing-next, writing-all}
-use Rattle.columns.proofs.ColumnLaws.{row-before}
+use Rattle.rows.proofs.RowsLaws.{row-fits}
 use borrow.Author.Needs.{needs}
 use Rattle.columns.proofs.load_column.Statement.{statement}
 use Rattle.columns.proofs.load_column.Tie as tie
@@ -22,16 +22,16 @@ unfolding tabulate
 loop-holds c = (omega arith, omega arith, writing-none _)
 
 mul-e : tie.Need-mul-e Inv-loop μ-loop
-mul-e c = omega (arith, row-before (c .before .loop .j) (length (c .before .before .args .e .now)) (c .before .before .args .n) (omega arith))
+mul-e c = omega (arith, row-fits (c .before .loop .j) (length (c .before .before .args .e .now)) (c .before .before .args .n) (omega arith))
 
 add-e : tie.Need-add-e Inv-loop μ-loop
-add-e c = omega (arith, row-before (c .before .loop .j) (length (c .before .before .args .e .now)) (c .before .before .args .n) (omega arith))
+add-e c = omega (arith, row-fits (c .before .loop .j) (length (c .before .before .args .e .now)) (c .before .before .args .n) (omega arith))
 
 mul-e-2 : tie.Need-mul-e-2 Inv-loop μ-loop
-mul-e-2 c = omega (arith, row-before (c .before .loop .j) (length (c .before .before .args .e .now)) (c .before .before .args .n) (omega arith))
+mul-e-2 c = omega (arith, row-fits (c .before .loop .j) (length (c .before .before .args .e .now)) (c .before .before .args .n) (omega arith))
 
 shared-slice-read-e : tie.Need-shared-slice-read-e Inv-loop μ-loop
-shared-slice-read-e c = omega (arith, row-before (c .before .before .loop .j) (length (c .before .before .before .args .e .now)) (c .before .before .before .args .n) (omega arith))
+shared-slice-read-e c = omega (arith, row-fits (c .before .before .loop .j) (length (c .before .before .before .args .e .now)) (c .before .before .before .args .n) (omega arith))
 
 mul-e-3 : tie.Need-mul-e-3 Inv-loop μ-loop
 mul-e-3 c = search needs

@@ -11,26 +11,37 @@ use borrow.Author.Needs.{needs}
 use Rattle.columns.proofs.prepare.Statement.{statement}
 use Rattle.columns.proofs.prepare.Tie as tie
 
+-- where the function begins, seen from later places
+abbrev start : (b : tie.After-slice-known3) → tie.Start
+start b = b .before .before .before .before .before .before
+
 horner-requires : tie.Need-horner-requires
 horner-requires c κs = search needs
 
 slice-read-inverse-of : tie.Need-slice-read-inverse-of
-slice-read-inverse-of c = omega (arith, ap length (c .before .before .before .horner .ensures), length-horner (c .before .before .before .before .before .before .args .p) (c .before .before .before .before .before .before .args .c) (c .before .before .before .before .before .before .args .a .now))
+slice-read-inverse-of c =
+    let a = start c .args in
+    omega (arith, ap length (c .before .before .before .horner .ensures), length-horner (a .p) (a .c) (a .a .now))
 
 inverse-of-requires : tie.Need-inverse-of-requires
 inverse-of-requires c κs =
-    let a = c .before .before .before .before .before .before .args in (
-      rw (c .before .before .before .horner .ensures) (c .before .before .before .before .before .before .pre .5),
+    let h = start c .pre in
+    let a = start c .args in (
+      rw (c .before .before .before .horner .ensures) (h .5),
       rw (c .before .before .before .horner .ensures) (horner-below (a .p) (omega arith) (a .c) (a .a .now) 0 (omega (arith, length-horner (a .p) (a .c) (a .a .now)))),
       omega arith,
-      c .before .before .before .before .before .before .pre .0,
+      h .0,
     )
 
 same-length : tie.Need-same-length
-same-length c = ap length (c .before .before .before .before .horner .ensures) ∙ length-horner (c .before .before .before .before .before .before .before .args .p) (c .before .before .before .before .before .before .before .args .c) (c .before .before .before .before .before .before .before .args .a .now)
+same-length c =
+    let a = start (c .before) .args in
+    ap length (c .before .before .before .before .horner .ensures) ∙ length-horner (a .p) (a .c) (a .a .now)
 
 returns : tie.Need-returns
-returns c = (c .inverse-of .ensures ∙ ap (λ (l : List _). inverseOf (c .before .before .before .before .before .before .before .args .p) (word l 0)) (c .before .before .before .before .horner .ensures), c .before .before .before .before .horner .ensures)
+returns c =
+    let horner = c .before .before .before .before .horner in
+    (c .inverse-of .ensures ∙ ap (λ (l : List _). inverseOf ((start (c .before) .args) .p) (word l 0)) (horner .ensures), horner .ensures)
 
 pub prepare-spec : {M : Type 1} → statement M
 prepare-spec =

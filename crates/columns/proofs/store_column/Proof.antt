@@ -4,8 +4,9 @@ use Prim.Native.Nat.{_≤_, _-_}
 use native.Mathlib.Omega.{arith}
 use lib.ListN.{length, take}
 use Rattle.columns.specs.Column.{ColumnStored}
-use Rattle.columns.proofs.ColumnLaws.{row-before, stored-none, stored-next, stored-all}
+use Rattle.columns.proofs.ColumnLaws.{stored-none, stored-next, stored-all}
 use borrow.Author.Needs.{needs}
+use Rattle.rows.proofs.RowsLaws.{row-fits}
 use Rattle.columns.proofs.store_column.Statement.{statement}
 use Rattle.columns.proofs.store_column.Tie as tie
 
@@ -25,16 +26,16 @@ shared-slice-read-out : tie.Need-shared-slice-read-out Inv-loop μ-loop
 shared-slice-read-out c = search needs
 
 mul-out-2 : tie.Need-mul-out-2 Inv-loop μ-loop
-mul-out-2 c = omega (arith, row-before (c .before .before .loop .j) (length (c .before .before .before .args .e .now)) (c .before .before .before .args .n) (omega arith))
+mul-out-2 c = omega (arith, row-fits (c .before .before .loop .j) (length (c .before .before .before .args .e .now)) (c .before .before .before .args .n) (omega arith))
 
 add-out : tie.Need-add-out Inv-loop μ-loop
-add-out c = omega (arith, row-before (c .before .before .loop .j) (length (c .before .before .before .args .e .now)) (c .before .before .before .args .n) (omega arith))
+add-out c = omega (arith, row-fits (c .before .before .loop .j) (length (c .before .before .before .args .e .now)) (c .before .before .before .args .n) (omega arith))
 
 mul-out-3 : tie.Need-mul-out-3 Inv-loop μ-loop
-mul-out-3 c = omega (arith, row-before (c .before .before .loop .j) (length (c .before .before .before .args .e .now)) (c .before .before .before .args .n) (omega arith))
+mul-out-3 c = omega (arith, row-fits (c .before .before .loop .j) (length (c .before .before .before .args .e .now)) (c .before .before .before .args .n) (omega arith))
 
 slice-write-out : tie.Need-slice-write-out Inv-loop μ-loop
-slice-write-out c = omega (arith, row-before (c .before .before .loop .j) (length (c .before .before .before .args .e .now)) (c .before .before .before .args .n) (omega arith))
+slice-write-out c = omega (arith, row-fits (c .before .before .loop .j) (length (c .before .before .before .args .e .now)) (c .before .before .before .args .n) (omega arith))
 
 add-j : tie.Need-add-j Inv-loop μ-loop
 add-j c = search needs

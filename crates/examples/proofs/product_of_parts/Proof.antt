@@ -11,38 +11,38 @@ add-x c = search needs
 add-y : tie.Need-add-y
 add-y c = search needs
 
-mul-multiply : tie.Need-mul-multiply
-mul-multiply c = search needs
+mul-product : tie.Need-mul-product
+mul-product c = search needs
 
-sub-multiply : tie.Need-sub-multiply
-sub-multiply c = search needs
+sub-product : tie.Need-sub-product
+sub-product c = search needs
 
-part-multiply-start : tie.Need-part-multiply-start
-part-multiply-start c = search needs
+part-product-start : tie.Need-part-product-start
+part-product-start c = search needs
 
-part-multiply-end : tie.Need-part-multiply-end
-part-multiply-end c = search needs
+part-product-end : tie.Need-part-product-end
+part-product-end c = search needs
 
-mul-multiply-2 : tie.Need-mul-multiply-2
-mul-multiply-2 c = search needs
+mul-product-2 : tie.Need-mul-product-2
+mul-product-2 c = search needs
 
-sub-multiply-2 : tie.Need-sub-multiply-2
-sub-multiply-2 c = search needs
+sub-product-2 : tie.Need-sub-product-2
+sub-product-2 c = search needs
 
-part-multiply-start-2 : tie.Need-part-multiply-start-2
-part-multiply-start-2 c = search needs
+part-product-start-2 : tie.Need-part-product-start-2
+part-product-start-2 c = search needs
 
-part-multiply-end-2 : tie.Need-part-multiply-end-2
-part-multiply-end-2 c = search needs
+part-product-end-2 : tie.Need-part-product-end-2
+part-product-end-2 c = search needs
 
-multiply-requires : tie.Need-multiply-requires
-multiply-requires c κs = search needs
+product-requires : tie.Need-product-requires
+product-requires c κs = search needs
 
 same-length : tie.Need-same-length
 same-length c = search needs
 
 returns : tie.Need-returns
-returns c = (simp add-sub-cancel-left at (c .before .before .multiply .ensures .0), simp add-sub-cancel-left at (c .before .before .multiply .ensures .1))
+returns c = (simp add-sub-cancel-left at (c .before .before .product .ensures .0), simp add-sub-cancel-left at (c .before .before .product .ensures .1))
 
 pub product-of-parts-spec : {M : Type 1} → statement M
 product-of-parts-spec =
@@ -50,14 +50,14 @@ product-of-parts-spec =
     (tie.spec
     add-x
     add-y
-    mul-multiply
-    sub-multiply
-    part-multiply-start
-    part-multiply-end
-    mul-multiply-2
-    sub-multiply-2
-    part-multiply-start-2
-    part-multiply-end-2
-    multiply-requires
+    mul-product
+    sub-product
+    part-product-start
+    part-product-end
+    mul-product-2
+    sub-product-2
+    part-product-start-2
+    part-product-end-2
+    product-requires
     same-length
     returns)

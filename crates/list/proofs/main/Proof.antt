@@ -30,7 +30,9 @@ array-share-prefix-text : tie.Need-array-share-prefix-text
 array-share-prefix-text c = let h = listed-fits _ _ _ _ (c .before .reply .result) refl (c .before .reply .ensures) in omega arith
 
 slice-aggregate-write-all : tie.Need-slice-aggregate-write-all
-slice-aggregate-write-all c = let h = listed-fits _ _ _ _ (c .before .before .reply .result) refl (c .before .before .reply .ensures) in sym (length-take-le (c .before .before .reply .result) _ (omega arith))
+slice-aggregate-write-all c =
+    let reply = c .before .before .reply in
+    let h = listed-fits _ _ _ _ (reply .result) refl (reply .ensures) in sym (length-take-le (reply .result) _ (omega arith))
 
 write-all-requires : tie.Need-write-all-requires
 write-all-requires c κs = search needs

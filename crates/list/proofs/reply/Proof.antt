@@ -23,13 +23,17 @@ same-length : tie.Need-same-length
 same-length c = search needs
 
 returns : tie.Need-returns
-returns c = listed-as (c .before .before .before .before .before .before .before .before .before .args .job .now) (c .before .before .before .before .before .before .before .before .before .args .text .now) _ _ _ (ap outcome (c .before .long .given .1)) (c .before .before .before .before .before .list .ensures)
+returns c =
+    let a = c .before .before .before .before .before .before .before .before .before .args in
+    listed-as (a .job .now) (a .text .now) _ _ _ (ap outcome (c .before .long .given .1)) (c .before .before .before .before .before .list .ensures)
 
 same-length-2 : tie.Need-same-length-2
 same-length-2 c = search needs
 
 returns-2 : tie.Need-returns-2
-returns-2 c = listed-never (c .before .before .before .before .before .before .before .before .args .job .now) (c .before .before .before .before .before .before .before .before .args .text .now) _ _ _ _ (ap outcome (c .enum-told .given .1)) (c .before .before .before .before .before .before .before .before .pre) (c .before .before .before .before .list .ensures)
+returns-2 c =
+    let a = c .before .before .before .before .before .before .before .before .args in
+    listed-never (a .job .now) (a .text .now) _ _ _ _ (ap outcome (c .enum-told .given .1)) (c .before .before .before .before .before .before .before .before .pre) (c .before .before .before .before .list .ensures)
 
 pub reply-spec : {M : Type 1} → statement M
 reply-spec =

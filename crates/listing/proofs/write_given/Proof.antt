@@ -2,7 +2,7 @@
 -- Assumes nothing.
 use mathlib.Core.Path.{refl, ap}
 use Rattle.numbers.specs.Refusals.{outcome}
-use Rattle.sheet.specs.Sheet.{Given}
+use Rattle.sheet.specs.Sheet.{Given, givenOf}
 use Rattle.listing.proofs.ListingLaws.{wrote-refused, given-listable, wrote-listed}
 use borrow.Author.Needs.{needs}
 use Rattle.listing.proofs.write_given.Statement.{statement}
@@ -26,7 +26,7 @@ same-length c = search needs
 returns : tie.Need-returns
 returns c =
     let a = c .before .before .before .before .before .before .before .before .before .before .before .before .before .args in
-    let g : Given = record { p = a .p; D = a .d; N = a .n; rows = a .rows .now; roots = a .roots .now } in
+    let g : Given = givenOf (a .p) (a .d) (a .n) (a .rows .now) (a .roots .now) in
     wrote-refused g _ _ _ refl (c .before .before .before .before .before .before .before .before .«open» .ensures) _ _ (ap outcome (c .before .before .before .before .before .r .given .1)) (c .before .before .put-refusal .ensures)
 
 enum-told : tie.Need-enum-told
@@ -43,9 +43,10 @@ slice-aggregate-put-listing c = search needs
 
 put-listing-requires : tie.Need-put-listing-requires
 put-listing-requires c κs =
+    let h = c .before .before .before .before .before .before .before .before .before .before .before .before .before .pre in
     let a = c .before .before .before .before .before .before .before .before .before .before .before .before .before .args in
-    let g : Given = record { p = a .p; D = a .d; N = a .n; rows = a .rows .now; roots = a .roots .now } in
-    (given-listable g _ _ _ refl (c .before .before .before .before .before .before .before .before .«open» .ensures) _ _ _ _ (ap outcome (c .before .before .before .before .before .enum-told .given .1)) refl (c .before .before .before .before .before .before .before .before .before .before .before .before .before .pre .0) (c .before .before .before .before .before .before .before .before .before .before .before .before .before .pre .1) (c .before .before .before .extend .ensures), c .before .before .before .before .before .before .before .before .before .before .before .before .before .pre .2)
+    let g : Given = givenOf (a .p) (a .d) (a .n) (a .rows .now) (a .roots .now) in
+    (given-listable g _ _ _ refl (c .before .before .before .before .before .before .before .before .«open» .ensures) _ _ _ _ (ap outcome (c .before .before .before .before .before .enum-told .given .1)) refl (h .0) (h .1) (c .before .before .before .extend .ensures), h .2)
 
 same-length-2 : tie.Need-same-length-2
 same-length-2 c = search needs
@@ -53,7 +54,7 @@ same-length-2 c = search needs
 returns-2 : tie.Need-returns-2
 returns-2 c =
     let a = c .before .before .before .before .before .before .before .before .before .before .before .before .before .before .before .before .args in
-    let g : Given = record { p = a .p; D = a .d; N = a .n; rows = a .rows .now; roots = a .roots .now } in
+    let g : Given = givenOf (a .p) (a .d) (a .n) (a .rows .now) (a .roots .now) in
     wrote-listed g _ _ _ refl (c .before .before .before .before .before .before .before .before .before .before .before .«open» .ensures) _ _ _ _ (ap outcome (c .before .before .before .before .before .before .before .before .enum-told .given .1)) refl (c .before .before .before .before .before .before .extend .ensures) (c .before .before .put-listing .ensures)
 
 pub write-given-spec : {M : Type 1} → statement M

@@ -3,12 +3,16 @@
 use mathlib.Core.Path.{sym, ap}
 use native.Mathlib.Omega.{arith}
 use Rattle.numbers.specs.Refusals.{outcome}
-use Rattle.sheet.specs.Sheet.{Given}
-use Rattle.open.proofs.OpenChecksLaws.{listed-small}
-use Rattle.open.proofs.OpenDoneLaws.{open-refused, open-listed, open-room, write-ready, write-done}
+use Rattle.sheet.specs.Sheet.{Given, givenOf}
+use Rattle.open.proofs.OpenChecksLaws.{list-small}
+use Rattle.open.proofs.OpenDoneLaws.{open-refused, open-list, open-room, write-ready, write-done}
 use borrow.Author.Needs.{needs}
 use Rattle.open.proofs.open.Statement.{statement}
 use Rattle.open.proofs.open.Tie as tie
+
+-- what is given
+abbrev given : tie.Start → Given
+given s = let a = s .args in givenOf (a .p) (a .d) (a .n) (a .rows .now) (a .roots .now)
 
 slice-aggregate-check-open : tie.Need-slice-aggregate-check-open
 slice-aggregate-check-open c = search needs
@@ -21,32 +25,21 @@ enum-known-answer c = search needs
 
 array-share-prefix-powers : tie.Need-array-share-prefix-powers
 array-share-prefix-powers c =
-    let a = c .before .before .before .before .before .before .before .before .before .args in
-    let g : Given = record { p = a .p; D = a .d; N = a .n; rows = a .rows .now; roots = a .roots .now } in
+    let s = c .before .before .before .before .before .before .before .before .before in
     let q = ap outcome (c .before .answer .given .1) in
     let h = c .before .before .before .before .check-open .ensures in
-    let z = listed-small g (open-listed g (a .out .now) _ _ _ q h) in
-    let n = open-room g (a .out .now) _ _ _ q h in
+    let z = list-small (given s) (open-list (given s) (s .args .out .now) _ _ _ q h) in
+    let n = open-room (given s) (s .args .out .now) _ _ _ q h in
     omega arith
 
 slice-aggregate-write-sheet : tie.Need-slice-aggregate-write-sheet
-slice-aggregate-write-sheet c =
-    let a = c .before .before .before .before .before .before .before .before .before .before .args in
-    let g : Given = record { p = a .p; D = a .d; N = a .n; rows = a .rows .now; roots = a .roots .now } in
-    let q = ap outcome (c .before .before .answer .given .1) in
-    let h = c .before .before .before .before .before .check-open .ensures in
-    sym (write-ready g (a .out .now) _ _ _ q h .2)
+slice-aggregate-write-sheet c = let s = c .before .before .before .before .before .before .before .before .before .before in sym (write-ready (given s) (s .args .out .now) _ _ _ (ap outcome (c .before .before .answer .given .1)) (c .before .before .before .before .before .check-open .ensures) .2)
 
 cast-write-sheet : tie.Need-cast-write-sheet
 cast-write-sheet c = search needs
 
 write-sheet-requires : tie.Need-write-sheet-requires
-write-sheet-requires c κs =
-    let a = c .before .before .before .before .before .before .before .before .before .before .before .args in
-    let g : Given = record { p = a .p; D = a .d; N = a .n; rows = a .rows .now; roots = a .roots .now } in
-    let q = ap outcome (c .before .before .before .answer .given .1) in
-    let h = c .before .before .before .before .before .before .check-open .ensures in
-    write-ready g (a .out .now) _ _ _ q h
+write-sheet-requires c κs = let s = c .before .before .before .before .before .before .before .before .before .before .before in write-ready (given s) (s .args .out .now) _ _ _ (ap outcome (c .before .before .before .answer .given .1)) (c .before .before .before .before .before .before .check-open .ensures)
 
 enum-told : tie.Need-enum-told
 enum-told c = search needs
@@ -56,15 +49,13 @@ same-length c = search needs
 
 returns : tie.Need-returns
 returns c =
-    let a = c .before .before .before .before .before .before .before .before .before .before .before .before .before .before .args in
-    let g : Given = record { p = a .p; D = a .d; N = a .n; rows = a .rows .now; roots = a .roots .now } in
-    write-done g (a .out .now) _ _ _ (ap outcome (c .before .before .before .before .before .before .answer .given .1)) (c .before .before .before .before .before .before .before .before .before .check-open .ensures) _ (c .before .before .write-sheet .ensures)
+    let s = c .before .before .before .before .before .before .before .before .before .before .before .before .before .before in
+    write-done (given s) (s .args .out .now) _ _ _ (ap outcome (c .before .before .before .before .before .before .answer .given .1)) (c .before .before .before .before .before .before .before .before .before .check-open .ensures) _ (c .before .before .write-sheet .ensures)
 
 returns-2 : tie.Need-returns-2
 returns-2 c =
-    let a = c .before .before .before .before .before .before .before .before .args in
-    let g : Given = record { p = a .p; D = a .d; N = a .n; rows = a .rows .now; roots = a .roots .now } in
-    open-refused g (a .out .now) _ _ _ _ (ap outcome (c .enum-told .given .1)) (c .before .before .before .check-open .ensures)
+    let s = c .before .before .before .before .before .before .before .before in
+    open-refused (given s) (s .args .out .now) _ _ _ _ (ap outcome (c .enum-told .given .1)) (c .before .before .before .check-open .ensures)
 
 pub open-spec : {M : Type 1} → statement M
 open-spec =

@@ -1,14 +1,18 @@
 -- `pair::check_continue` meets its contract: at each `return` the tests that led there say which row it is.
 -- Assumes nothing.
-use mathlib.Core.Path.{_≡_, _∙_, sym}
+use mathlib.Core.Path.{_≡_, _∙_, sym, ap}
+use mathlib.Core.Bool.{not}
+use mathlib.Core.List.{[], _∷_}
+use Prim.Native.Nat.{_≤_}
 use native.Mathlib.Omega.{arith}
-use borrow.Author.Tests.{lt-ltb, le-ltb, not-true, not-false}
+use borrow.Author.Tests.{lt-ltb, le-ltb}
 use lib.ListN.{length}
-use Rattle.numbers.specs.Refusals.{judge}
+use Rattle.numbers.specs.Refusals.{judge, beyondCheck, behindCheck}
 use Rattle.numbers.specs.declared.refusal.Verdict.the-variants.{Pass}
-use Rattle.numbers.proofs.RefusalsLaws.{after-pass, after-refuse}
-use Rattle.pair.specs.Pair.{firstChecks}
-use Rattle.pair.proofs.TestLaws.{continueRows, first-pass}
+use Rattle.numbers.proofs.RefusalsLaws.{after-pass, take-check, skip-check, none-judged, inside}
+use Rattle.series.proofs.CheckLaws.{after-told}
+use Rattle.pair.specs.Pair.{firstChecks, continueChecks}
+use Rattle.pair.proofs.TestLaws.{continueRows, FirstPass, first-pass, either-first, either-second, either-none}
 use borrow.Author.Needs.{needs}
 use Rattle.pair.proofs.check_continue.Statement.{statement}
 use Rattle.pair.proofs.check_continue.Tie as tie
@@ -23,105 +27,83 @@ returns : tie.Need-returns
 returns c =
     let a = c .before .before .before .before .before .args in
     let t = c .enum-told .given in
-    t .1 ∙ sym (after-refuse (firstChecks (a .p) (a .d) (a .n) (a .f .now) (length (a .out .now))) _ _ (sym (c .before .before .check-first .ensures) ∙ t .1))
+    t .1 ∙ sym (after-told (firstChecks (a .p) (a .d) (a .n) (a .f .now) (length (a .out .now))) _ _ _ (c .before .before .check-first .ensures) (t .1))
 
 enum-told-2 : tie.Need-enum-told-2
 enum-told-2 c = search needs
+
+-- checks 1 to 11 have passed, and then 13 and 14
+passed : (b : tie.After-enum-told2) → let a = b .before .before .before .before .before .args in judge (firstChecks (a .p) (a .d) (a .n) (a .f .now) (length (a .out .now))) ≡ Pass
+passed b = sym (b .before .before .check-first .ensures) ∙ b .enum-told2 .given .1
+
+facts : (b : tie.After-enum-told2) → let a = b .before .before .before .before .before .args in FirstPass (a .p) (a .d) (a .n) (a .f .now) (length (a .out .now))
+facts b = first-pass _ _ _ _ _ (passed b)
+
+passed-11 : (b : tie.After-enum-told2) → let a = b .before .before .before .before .before .args in
+    judge (continueChecks (a .p) (a .d) (a .n) (a .f .now) (a .h) (a .w) (a .out .now)) ≡ judge (continueRows (a .p) (a .d) (a .n) (a .f .now) (a .h) (a .w) (a .out .now))
+passed-11 b =
+    let a = b .before .before .before .before .before .args in
+    after-pass (firstChecks (a .p) (a .d) (a .n) (a .f .now) (length (a .out .now))) _ (passed b)
+
+passed-13 : (b : tie.Else2) → let a = b .before .before .before .before .before .before .before .before .before .before .args in
+    judge (continueChecks (a .p) (a .d) (a .n) (a .f .now) (a .h) (a .w) (a .out .now)) ≡ judge (beyondCheck (a .n) (a .w) ∷ behindCheck (a .h) (a .w) ∷ [])
+passed-13 b =
+    passed-11 (b .before .before .before .before .before)
+    ∙ skip-check _ _ (either-none _ _ (sym (b .before .before .before .before .outside .ensures) ∙ b .before .before .before .if1 .left) (ap not (sym (b .before .is-pair .ensures)) ∙ b .if2 .left))
+
+passed-14 : (b : tie.Else3) → let a = b .before .before .before .before .before .before .before .before .before .before .before .before .args in
+    judge (continueChecks (a .p) (a .d) (a .n) (a .f .now) (a .h) (a .w) (a .out .now)) ≡ judge (behindCheck (a .h) (a .w) ∷ [])
+passed-14 b = passed-13 (b .before .before) ∙ skip-check _ _ (sym (b .before .outside2 .ensures) ∙ b .if3 .left)
+
+outside-requires : tie.Need-outside-requires
+outside-requires c κs = search needs
 
 refuse-requires : tie.Need-refuse-requires
 refuse-requires c κs = search needs
 
 returns-2 : tie.Need-returns-2
-unfolding judge
-returns-2 c =
-    let a = c .before .before .before .before .before .before .before .args in
-    let m : judge (firstChecks (a .p) (a .d) (a .n) (a .f .now) (length (a .out .now))) ≡ Pass = cc in
-    c .refuse .ensures ∙ sym (after-pass (firstChecks (a .p) (a .d) (a .n) (a .f .now) (length (a .out .now))) (continueRows (a .p) (a .d) (a .n) (a .f .now) (a .h) (a .w) (a .out .now)) m ∙ simp (lt-ltb (a .h) 1 (omega arith)))
+returns-2 c = c .refuse .ensures ∙ sym (passed-11 (c .before .before .before) ∙ take-check _ _ (either-first _ _ (sym (c .before .before .outside .ensures) ∙ c .before .if1 .taken)))
+
+add-order-of : tie.Need-add-order-of
+add-order-of c = search needs
+
+order-of-requires : tie.Need-order-of-requires
+order-of-requires c κs = let i = facts (c .before .before) .operation .inputs in (i .f-long, i .width-low, i .width-high, i .f-high)
+
+is-pair-requires : tie.Need-is-pair-requires
+is-pair-requires c κs =
+    let o = facts (c .before .before .before) in
+    let i = o .operation .inputs in
+    let a = c .before .before .before .before .before .before .before .before .args in
+    let hs : (1 ≤ a .h) × (a .h ≤ a .n) = inside 1 (a .n) (a .h) (sym (c .before .before .outside .ensures) ∙ c .before .if1 .left) in
+    (omega arith, i .modulus .small, o .operation .roomy, i .f-long, c .order-of .ensures, omega (arith, c .order-of .ensures), omega arith, hs .0, hs .1, i .width-high)
 
 refuse-requires-2 : tie.Need-refuse-requires-2
 refuse-requires-2 c κs = search needs
 
 returns-3 : tie.Need-returns-3
-unfolding judge
 returns-3 c =
-    let a = c .before .before .before .before .before .before .before .before .args in
-    let m : judge (firstChecks (a .p) (a .d) (a .n) (a .f .now) (length (a .out .now))) ≡ Pass = cc in
-    c .refuse2 .ensures ∙ sym (after-pass (firstChecks (a .p) (a .d) (a .n) (a .f .now) (length (a .out .now))) (continueRows (a .p) (a .d) (a .n) (a .f .now) (a .h) (a .w) (a .out .now)) m ∙ simp (le-ltb (a .h) 1 (omega arith), lt-ltb (a .n) (a .h) (omega arith)))
+    c .refuse2 .ensures
+    ∙ sym (passed-11 (c .before .before .before .before .before .before)
+    ∙ take-check _ _ (either-second _ _ (sym (c .before .before .before .before .before .outside .ensures) ∙ c .before .before .before .before .if1 .left) (ap not (sym (c .before .before .is-pair .ensures)) ∙ c .before .if2 .taken)))
 
-add-order-of : tie.Need-add-order-of
-add-order-of c =
-    let a = c .before .before .before .before .before .before .before .args in
-    let m : judge (firstChecks (a .p) (a .d) (a .n) (a .f .now) (length (a .out .now))) ≡ Pass = cc in
-    let o = first-pass (a .p) (a .d) (a .n) (a .f .now) (length (a .out .now)) m in
-    omega arith
-
-order-of-requires : tie.Need-order-of-requires
-order-of-requires c κs =
-    let a = c .before .before .before .before .before .before .before .args in
-    let m : judge (firstChecks (a .p) (a .d) (a .n) (a .f .now) (length (a .out .now))) ≡ Pass = cc in
-    let o = first-pass (a .p) (a .d) (a .n) (a .f .now) (length (a .out .now)) m in
-    let i = o .operation .inputs in
-    (i .f-long, i .terms-low, i .terms-high, i .f-high)
-
-is-pair-requires : tie.Need-is-pair-requires
-is-pair-requires c κs =
-    let a = c .before .before .before .before .before .before .before .before .args in
-    let m : judge (firstChecks (a .p) (a .d) (a .n) (a .f .now) (length (a .out .now))) ≡ Pass = cc in
-    let o = first-pass (a .p) (a .d) (a .n) (a .f .now) (length (a .out .now)) m in
-    let i = o .operation .inputs in
-    (omega arith, i .modulus .small, o .operation .roomy, i .f-long, c .order-of .ensures, omega (arith, c .order-of .ensures, o .bound), omega arith, omega arith, omega arith, i .terms-high)
+outside-requires-2 : tie.Need-outside-requires-2
+outside-requires-2 c κs = search needs
 
 refuse-requires-3 : tie.Need-refuse-requires-3
 refuse-requires-3 c κs = search needs
 
 returns-4 : tie.Need-returns-4
-unfolding judge
-returns-4 c =
-    let a = c .before .before .before .before .before .before .before .before .before .before .before .args in
-    let m : judge (firstChecks (a .p) (a .d) (a .n) (a .f .now) (length (a .out .now))) ≡ Pass = cc in
-    let t = sym (c .before .before .is-pair .ensures) ∙ not-true (c .before .before .is-pair .result) (c .before .if3 .taken) in
-    c .refuse3 .ensures ∙ sym (after-pass (firstChecks (a .p) (a .d) (a .n) (a .f .now) (length (a .out .now))) (continueRows (a .p) (a .d) (a .n) (a .f .now) (a .h) (a .w) (a .out .now)) m ∙ simp (le-ltb (a .h) 1 (omega arith), le-ltb (a .n) (a .h) (omega arith), t))
+returns-4 c = c .refuse3 .ensures ∙ sym (passed-13 (c .before .before .before) ∙ take-check _ _ (sym (c .before .before .outside2 .ensures) ∙ c .before .if3 .taken))
 
 refuse-requires-4 : tie.Need-refuse-requires-4
 refuse-requires-4 c κs = search needs
 
 returns-5 : tie.Need-returns-5
-unfolding judge
-returns-5 c =
-    let a = c .before .before .before .before .before .before .before .before .before .before .before .before .args in
-    let m : judge (firstChecks (a .p) (a .d) (a .n) (a .f .now) (length (a .out .now))) ≡ Pass = cc in
-    let t = sym (c .before .before .before .is-pair .ensures) ∙ not-false (c .before .before .before .is-pair .result) (c .before .before .if3 .left) in
-    c .refuse4 .ensures ∙ sym (after-pass (firstChecks (a .p) (a .d) (a .n) (a .f .now) (length (a .out .now))) (continueRows (a .p) (a .d) (a .n) (a .f .now) (a .h) (a .w) (a .out .now)) m ∙ simp (le-ltb (a .h) 1 (omega arith), le-ltb (a .n) (a .h) (omega arith), t, lt-ltb (a .w) 1 (omega arith)))
-
-refuse-requires-5 : tie.Need-refuse-requires-5
-refuse-requires-5 c κs = search needs
+returns-5 c = c .refuse4 .ensures ∙ sym (passed-14 (c .before .before) ∙ take-check _ _ (lt-ltb _ _ (c .before .if4 .taken)))
 
 returns-6 : tie.Need-returns-6
-unfolding judge
-returns-6 c =
-    let a = c .before .before .before .before .before .before .before .before .before .before .before .before .before .args in
-    let m : judge (firstChecks (a .p) (a .d) (a .n) (a .f .now) (length (a .out .now))) ≡ Pass = cc in
-    let t = sym (c .before .before .before .before .is-pair .ensures) ∙ not-false (c .before .before .before .before .is-pair .result) (c .before .before .before .if3 .left) in
-    c .refuse5 .ensures ∙ sym (after-pass (firstChecks (a .p) (a .d) (a .n) (a .f .now) (length (a .out .now))) (continueRows (a .p) (a .d) (a .n) (a .f .now) (a .h) (a .w) (a .out .now)) m ∙ simp (le-ltb (a .h) 1 (omega arith), le-ltb (a .n) (a .h) (omega arith), t, le-ltb (a .w) 1 (omega arith), lt-ltb (a .n) (a .w) (omega arith)))
-
-refuse-requires-6 : tie.Need-refuse-requires-6
-refuse-requires-6 c κs = search needs
-
-returns-7 : tie.Need-returns-7
-unfolding judge
-returns-7 c =
-    let a = c .before .before .before .before .before .before .before .before .before .before .before .before .before .before .args in
-    let m : judge (firstChecks (a .p) (a .d) (a .n) (a .f .now) (length (a .out .now))) ≡ Pass = cc in
-    let t = sym (c .before .before .before .before .before .is-pair .ensures) ∙ not-false (c .before .before .before .before .before .is-pair .result) (c .before .before .before .before .if3 .left) in
-    c .refuse6 .ensures ∙ sym (after-pass (firstChecks (a .p) (a .d) (a .n) (a .f .now) (length (a .out .now))) (continueRows (a .p) (a .d) (a .n) (a .f .now) (a .h) (a .w) (a .out .now)) m ∙ simp (le-ltb (a .h) 1 (omega arith), le-ltb (a .n) (a .h) (omega arith), t, le-ltb (a .w) 1 (omega arith), le-ltb (a .n) (a .w) (omega arith), lt-ltb (a .w) (a .h) (omega arith)))
-
-returns-8 : tie.Need-returns-8
-unfolding judge
-returns-8 c =
-    let a = c .before .before .before .before .before .before .before .before .before .before .before .before .before .args in
-    let m : judge (firstChecks (a .p) (a .d) (a .n) (a .f .now) (length (a .out .now))) ≡ Pass = cc in
-    let t = sym (c .before .before .before .before .is-pair .ensures) ∙ not-false (c .before .before .before .before .is-pair .result) (c .before .before .before .if3 .left) in
-    sym (after-pass (firstChecks (a .p) (a .d) (a .n) (a .f .now) (length (a .out .now))) (continueRows (a .p) (a .d) (a .n) (a .f .now) (a .h) (a .w) (a .out .now)) m ∙ simp (le-ltb (a .h) 1 (omega arith), le-ltb (a .n) (a .h) (omega arith), t, le-ltb (a .w) 1 (omega arith), le-ltb (a .n) (a .w) (omega arith), le-ltb (a .w) (a .h) (omega arith)))
+returns-6 c = sym (passed-14 (c .before) ∙ skip-check _ _ (le-ltb _ _ (c .if4 .left)) ∙ none-judged)
 
 pub check-continue-spec : {M : Type 1} → statement M
 check-continue-spec =
@@ -131,19 +113,17 @@ check-continue-spec =
     enum-told
     returns
     enum-told-2
+    outside-requires
     refuse-requires
     returns-2
-    refuse-requires-2
-    returns-3
     add-order-of
     order-of-requires
     is-pair-requires
+    refuse-requires-2
+    returns-3
+    outside-requires-2
     refuse-requires-3
     returns-4
     refuse-requires-4
     returns-5
-    refuse-requires-5
-    returns-6
-    refuse-requires-6
-    returns-7
-    returns-8)
+    returns-6)

@@ -2,11 +2,12 @@
 -- Assumes nothing.
 use mathlib.Core.Path.{_≡_, sym, subst}
 use Prim.Native.Nat.{_≤_, _-_}
+use native.Mathlib.Nat.{le-refl, le-trans, lt-of-lt-of-le}
 use native.Mathlib.Omega.{arith}
 use lib.Seq.{length-take-le}
-use Rattle.rows.proofs.RowsLaws.{zeros}
+use Rattle.rows.proofs.RowsLaws.{zeros, far, far-words}
 use Rattle.pair.specs.Pair.{PairDone}
-use Rattle.pair.proofs.LiftLaws.{seam-small, seam-fits, load-fits, front-long, front-fits, front-some, front-below, front-value, whole-fits, front-prepared, done-none, done-step, lifting-step}
+use Rattle.pair.proofs.LiftLaws.{seam-small, seam-inside, front-rows, front-low, load-fits, front-long, front-fits, front-some, front-below, front-value, whole-fits, front-prepared, done-none, done-step, lifting-step}
 use borrow.Author.Needs.{needs}
 use Rattle.pair.proofs.lift.Statement.{statement}
 use Rattle.pair.proofs.lift.Tie as tie
@@ -24,70 +25,70 @@ sub-k : tie.Need-sub-k Inv-loop μ-loop
 sub-k c = let h = c .before .before .pre .0 .bound in omega arith
 
 mul-seam : tie.Need-mul-seam Inv-loop μ-loop
-mul-seam c = record { fits = omega (arith, seam-small (c .before .before .args .p) (c .before .before .args .deg) (c .before .before .args .n) (c .before .before .args .f .now) (c .before .before .args .d) (c .before .before .args .from) (c .before .before .args .out .now) (c .before .before .pre .0)) }
+mul-seam c = record { fits = far (seam-small (c .before .before .pre .0)) }
 
 mul-load-column : tie.Need-mul-load-column Inv-loop μ-loop
-mul-load-column c = record { fits = omega (arith, seam-small (c .before .before .args .p) (c .before .before .args .deg) (c .before .before .args .n) (c .before .before .args .f .now) (c .before .before .args .d) (c .before .before .args .from) (c .before .before .args .out .now) (c .before .before .pre .0)) }
+mul-load-column c = record { fits = far-words (seam-small (c .before .before .pre .0)) }
 
 sub-load-column : tie.Need-sub-load-column Inv-loop μ-loop
-sub-load-column c = omega (arith, seam-fits (c .before .before .args .p) (c .before .before .args .deg) (c .before .before .args .n) (c .before .before .args .f .now) (c .before .before .args .d) (c .before .before .args .from) (c .before .before .args .out .now) (c .before .before .pre .0))
+sub-load-column c = seam-inside (c .before .before .pre .0)
 
 part-load-column-start : tie.Need-part-load-column-start Inv-loop μ-loop
-part-load-column-start c = omega (arith, seam-fits (c .before .before .args .p) (c .before .before .args .deg) (c .before .before .args .n) (c .before .before .args .f .now) (c .before .before .args .d) (c .before .before .args .from) (c .before .before .args .out .now) (c .before .before .pre .0))
+part-load-column-start c = seam-inside (c .before .before .pre .0)
 
 part-load-column-end : tie.Need-part-load-column-end Inv-loop μ-loop
-part-load-column-end c = omega (arith, seam-fits (c .before .before .args .p) (c .before .before .args .deg) (c .before .before .args .n) (c .before .before .args .f .now) (c .before .before .args .d) (c .before .before .args .from) (c .before .before .args .out .now) (c .before .before .pre .0))
+part-load-column-end c = search needs
 
 array-borrow-prefix-a : tie.Need-array-borrow-prefix-a Inv-loop μ-loop
-array-borrow-prefix-a c = let h = c .before .before .before .pre .0 .degree-high in omega arith
+array-borrow-prefix-a c = front-rows (c .before .before .before .pre .0)
 
 slice-aggregate-load-column : tie.Need-slice-aggregate-load-column Inv-loop μ-loop
-slice-aggregate-load-column c = sym (length-take-le _ zeros (let h = c .before .before .before .before .pre .0 .degree-high in omega arith))
+slice-aggregate-load-column c = sym (length-take-le _ zeros (front-rows (c .before .before .before .before .pre .0)))
 
 load-column-requires : tie.Need-load-column-requires Inv-loop μ-loop
 load-column-requires c κs =
-    let h = c .before .before .before .before .pre .0 .degree-high in
-    let one = c .before .before .before .before .pre .0 .terms-low in
-    let fits = load-fits (c .before .before .before .before .args .p) (c .before .before .before .before .args .deg) (c .before .before .before .before .args .n) (c .before .before .before .before .args .f .now) (c .before .before .before .before .args .d) (c .before .before .before .before .args .from) (c .before .before .before .before .args .out .now) (c .before .before .before .before .pre .0) zeros (omega arith) in
-    (c .before .before .before .before .pre .0 .terms-high, omega arith, fits .0, fits .1)
+    let l = c .before .before .before .before .pre .0 in
+    let fits = load-fits l zeros (front-rows l) in
+    (l .width-high, l .width-low, fits .0, fits .1)
 
 array-borrow-prefix-a-2 : tie.Need-array-borrow-prefix-a-2 Inv-loop μ-loop
-array-borrow-prefix-a-2 c = front-fits (c .before .before .before .before .before .before .args .p) (c .before .before .before .before .before .before .args .deg) (c .before .before .before .before .before .before .args .n) (c .before .before .before .before .before .before .args .f .now) (c .before .before .before .before .before .before .args .d) (c .before .before .before .before .before .before .args .from) (c .before .before .before .before .before .before .args .out .now) (c .before .before .before .before .before .before .pre .0) zeros _ (let h = c .before .before .before .before .before .before .pre .0 .degree-high in omega arith) (c .before .load-column .ensures)
+array-borrow-prefix-a-2 c = let l = c .before .before .before .before .before .before .pre .0 in front-fits l zeros _ (front-rows l) (c .before .load-column .ensures)
 
 slice-aggregate-prepare : tie.Need-slice-aggregate-prepare Inv-loop μ-loop
-slice-aggregate-prepare c = sym (front-long (c .before .before .before .before .before .before .before .args .p) (c .before .before .before .before .before .before .before .args .deg) (c .before .before .before .before .before .before .before .args .n) (c .before .before .before .before .before .before .before .args .f .now) (c .before .before .before .before .before .before .before .args .d) (c .before .before .before .before .before .before .before .args .from) (c .before .before .before .before .before .before .before .args .out .now) (c .before .before .before .before .before .before .before .pre .0) zeros _ (let h = c .before .before .before .before .before .before .before .pre .0 .degree-high in omega arith) (c .before .before .load-column .ensures))
+slice-aggregate-prepare c = let l = c .before .before .before .before .before .before .before .pre .0 in sym (front-long l zeros _ (front-rows l) (c .before .before .load-column .ensures))
 
 prepare-requires : tie.Need-prepare-requires Inv-loop μ-loop
 prepare-requires c κs =
-    let h = c .before .before .before .before .before .before .before .pre .0 .degree-high in
-    let two = c .before .before .before .before .before .before .before .pre .0 .prime .two-le in (
-      c .before .before .before .before .before .before .before .pre .0 .prime,
-      c .before .before .before .before .before .before .before .pre .0 .small,
-      omega arith,
-      front-some (c .before .before .before .before .before .before .before .args .p) (c .before .before .before .before .before .before .before .args .deg) (c .before .before .before .before .before .before .before .args .n) (c .before .before .before .before .before .before .before .args .f .now) (c .before .before .before .before .before .before .before .args .d) (c .before .before .before .before .before .before .before .args .from) (c .before .before .before .before .before .before .before .args .out .now) (c .before .before .before .before .before .before .before .pre .0) zeros _ (omega arith) (c .before .before .load-column .ensures),
-      front-below (c .before .before .before .before .before .before .before .args .p) (c .before .before .before .before .before .before .before .args .deg) (c .before .before .before .before .before .before .before .args .n) (c .before .before .before .before .before .before .before .args .f .now) (c .before .before .before .before .before .before .before .args .d) (c .before .before .before .before .before .before .before .args .from) (c .before .before .before .before .before .before .before .args .out .now) (c .before .before .before .before .before .before .before .pre .0) zeros _ (omega arith) (c .before .before .load-column .ensures),
-      front-value (c .before .before .before .before .before .before .before .args .p) (c .before .before .before .before .before .before .before .args .deg) (c .before .before .before .before .before .before .before .args .n) (c .before .before .before .before .before .before .before .args .f .now) (c .before .before .before .before .before .before .before .args .d) (c .before .before .before .before .before .before .before .args .from) (c .before .before .before .before .before .before .before .args .out .now) (c .before .before .before .before .before .before .before .pre .0) zeros _ (omega arith) (c .before .before .load-column .ensures),
-    )
+    let l = c .before .before .before .before .before .before .before .pre .0 in
+    let two = l .prime .two-le in
+    let h = front-rows l in
+    let e = c .before .before .load-column .ensures in
+    (l .prime, l .small, omega arith, front-some l zeros _ h e, front-below l zeros _ h e, front-value l zeros _ h e)
 
 loop-holds : tie.Need-loop-holds Inv-loop μ-loop
-loop-holds c = (omega arith, omega arith, done-none _ _ _ _ _ _ (c .before .before .before .before .before .before .before .before .before .pre .0 .words))
+loop-holds c = let h = c .before .before .before .before .before .before .before .before .before .pre in (le-refl _, h .2, done-none (h .0 .words))
 
 sub-lift-column : tie.Need-sub-lift-column Inv-loop μ-loop
-sub-lift-column c = let b = c .before .before .before .before .before .before .before .before .before .before .before .pre .0 .bound in omega arith
+sub-lift-column c = front-low (c .before .before .before .before .before .before .before .before .before .before .before .pre .0)
 
 part-lift-column-start : tie.Need-part-lift-column-start Inv-loop μ-loop
-part-lift-column-start c = let b = c .before .before .before .before .before .before .before .before .before .before .before .before .pre .0 .bound in omega arith
+part-lift-column-start c = front-low (c .before .before .before .before .before .before .before .before .before .before .before .before .pre .0)
 
 part-lift-column-end : tie.Need-part-lift-column-end Inv-loop μ-loop
-part-lift-column-end c = whole-fits (c .before .before .before .before .before .before .before .before .before .before .before .before .args .p) (c .before .before .before .before .before .before .before .before .before .before .before .before .args .deg) (c .before .before .before .before .before .before .before .before .before .before .before .before .args .n) (c .before .before .before .before .before .before .before .before .before .before .before .before .args .f .now) (c .before .before .before .before .before .before .before .before .before .before .before .before .args .d) (c .before .before .before .before .before .before .before .before .before .before .before .before .args .from) (c .before .before .before .before .before .before .before .before .before .before .before .before .args .out .now) (c .before .before .before .before .before .before .before .before .before .before .before .before .pre .0) zeros _ (let h = c .before .before .before .before .before .before .before .before .before .before .before .before .pre .0 .degree-high in omega arith) (c .before .before .before .before .before .before .before .load-column .ensures) _ (c .before .before .before .before .prepare .ensures .0) (c .before .before .before .before .prepare .ensures .1)
+part-lift-column-end c =
+    let l = c .before .before .before .before .before .before .before .before .before .before .before .before .pre .0 in
+    let e = c .before .before .before .before .prepare .ensures in
+    whole-fits l zeros _ (front-rows l) (c .before .before .before .before .before .before .before .load-column .ensures) _ (e .0) (e .1)
 
 lift-column-requires : tie.Need-lift-column-requires Inv-loop μ-loop
 lift-column-requires c κs =
-    let h = c .before .before .before .before .before .before .before .before .before .before .before .before .before .before .pre .0 .degree-high in (
-      lifting-step (c .before .before .before .before .before .before .before .before .before .before .before .before .before .before .args .p) (c .before .before .before .before .before .before .before .before .before .before .before .before .before .before .args .deg) (c .before .before .before .before .before .before .before .before .before .before .before .before .before .before .args .n) (c .before .before .before .before .before .before .before .before .before .before .before .before .before .before .args .f .now) (c .before .before .before .before .before .before .before .before .before .before .before .before .before .before .args .d) (c .before .before .before .before .before .before .before .before .before .before .before .before .before .before .args .from) (c .before .before .before .before .loop .t) (c .before .before .before .before .before .before .before .before .before .before .before .before .before .before .args .out .now) (c .before .before .before .before .loop .out) (c .before .before .before .before .before .before .before .before .before .before .before .before .before .before .pre .0) (c .before .before .before .before .loop .inv .2),
-      front-prepared (c .before .before .before .before .before .before .before .before .before .before .before .before .before .before .args .p) (c .before .before .before .before .before .before .before .before .before .before .before .before .before .before .args .deg) (c .before .before .before .before .before .before .before .before .before .before .before .before .before .before .args .n) (c .before .before .before .before .before .before .before .before .before .before .before .before .before .before .args .f .now) (c .before .before .before .before .before .before .before .before .before .before .before .before .before .before .args .d) (c .before .before .before .before .before .before .before .before .before .before .before .before .before .before .args .from) (c .before .before .before .before .before .before .before .before .before .before .before .before .before .before .args .out .now) (c .before .before .before .before .before .before .before .before .before .before .before .before .before .before .pre .0) zeros _ (omega arith) (c .before .before .before .before .before .before .before .before .before .load-column .ensures) _ (c .before .before .before .before .before .before .prepare .ensures .0) (c .before .before .before .before .before .before .prepare .ensures .1),
-      omega arith,
-      omega arith,
+    let h = c .before .before .before .before .before .before .before .before .before .before .before .before .before .before .pre in
+    let i = c .before .before .before .before .loop .inv in
+    let e = c .before .before .before .before .before .before .prepare .ensures in (
+      lifting-step (h .0) (i .2),
+      front-prepared (h .0) zeros _ (front-rows (h .0)) (c .before .before .before .before .before .before .before .before .before .load-column .ensures) _ (e .0) (e .1),
+      le-trans (h .1) (i .0),
+      lt-of-lt-of-le (c .before .before .before .loop-test .taken) (h .3),
     )
 
 add-t : tie.Need-add-t Inv-loop μ-loop
@@ -97,15 +98,16 @@ loop-less : tie.Need-loop-less Inv-loop μ-loop
 loop-less c = search needs
 
 loop-again : tie.Need-loop-again Inv-loop μ-loop
-loop-again c = (omega arith, omega arith, done-step _ _ _ _ (c .before .before .before .before .before .before .before .loop .t) _ _ _ _ (c .before .before .before .before .before .before .before .loop .inv .2) (c .before .before .lift-column .ensures))
+loop-again c = (omega arith, omega arith, done-step (c .before .before .before .before .before .before .before .loop .inv .2) (c .before .before .lift-column .ensures))
 
 same-length : tie.Need-same-length Inv-loop μ-loop
 same-length c = c .before .loop .inv .2 .long
 
 returns : tie.Need-returns Inv-loop μ-loop
 returns c =
-    let e : c .before .loop .t ≡ c .before .before .before .before .before .before .before .before .before .before .before .args .to = omega arith in
-    subst (λ x. PairDone (c .before .before .before .before .before .before .before .before .before .before .before .args .p) (c .before .before .before .before .before .before .before .before .before .before .before .args .deg) (c .before .before .before .before .before .before .before .before .before .before .before .args .n) (c .before .before .before .before .before .before .before .before .before .before .before .args .f .now) x (c .before .before .before .before .before .before .before .before .before .before .before .args .out .now) (c .before .loop .out)) e (c .before .loop .inv .2)
+    let a = c .before .before .before .before .before .before .before .before .before .before .before .args in
+    let e : c .before .loop .t ≡ a .to = omega arith in
+    subst (λ x. PairDone (a .p) (a .deg) (a .n) (a .f .now) x (a .out .now) (c .before .loop .out)) e (c .before .loop .inv .2)
 
 pub lift-spec : {M : Type 1} → statement M
 lift-spec =

@@ -20,44 +20,43 @@ slice-aggregate-gather-column c = sym (length-take-le _ zeros (let z = c .before
 
 gather-column-requires : tie.Need-gather-column-requires
 gather-column-requires c κs =
-    let l = c .before .before .before .before .before .pre .0 in
-    (l, c .before .before .before .before .before .pre .2, c .before .before .before .before .before .pre .3, length-take-le _ zeros (let z = l .degree-high in omega arith))
+    let h = c .before .before .before .before .before .pre in
+    (h .0, h .2, h .3, length-take-le _ zeros (let z = h .0 .degree-high in omega arith))
 
 array-borrow-prefix-column-2 : tie.Need-array-borrow-prefix-column-2
-array-borrow-prefix-column-2 c =
-    column-fits (c .before .before .before .before .before .before .before .args .p) (c .before .before .before .before .before .before .before .args .deg) (c .before .before .before .before .before .before .before .args .n) (c .before .before .before .before .before .before .before .args .f .now) (c .before .before .before .before .before .before .before .args .d) (c .before .before .before .before .before .before .before .args .t) (c .before .before .before .before .before .before .before .args .inverse) (c .before .before .before .before .before .before .before .args .a .now) (c .before .before .before .before .before .before .before .args .out .now) (c .before .before .before .before .before .before .before .pre .0) (c .before .before .before .before .before .before .before .pre .1) _ (c .before .gather-column .ensures)
+array-borrow-prefix-column-2 c = let h = c .before .before .before .before .before .before .before .pre in column-fits (h .0) (h .1) _ (c .before .gather-column .ensures)
 
 slice-aggregate-solve : tie.Need-slice-aggregate-solve
-slice-aggregate-solve c =
-    sym (column-long (c .before .before .before .before .before .before .before .before .args .p) (c .before .before .before .before .before .before .before .before .args .deg) (c .before .before .before .before .before .before .before .before .args .n) (c .before .before .before .before .before .before .before .before .args .f .now) (c .before .before .before .before .before .before .before .before .args .d) (c .before .before .before .before .before .before .before .before .args .t) (c .before .before .before .before .before .before .before .before .args .inverse) (c .before .before .before .before .before .before .before .before .args .a .now) (c .before .before .before .before .before .before .before .before .args .out .now) (c .before .before .before .before .before .before .before .before .pre .0) (c .before .before .before .before .before .before .before .before .pre .1) _ (c .before .before .gather-column .ensures))
+slice-aggregate-solve c = let h = c .before .before .before .before .before .before .before .before .pre in sym (column-long (h .0) (h .1) _ (c .before .before .gather-column .ensures))
 
 solve-requires : tie.Need-solve-requires
 solve-requires c κs =
-    let l = c .before .before .before .before .before .before .before .before .pre .0 in
-    let r = c .before .before .before .before .before .before .before .before .pre .1 in
+    let h = c .before .before .before .before .before .before .before .before .pre in
+    let l = h .0 in
+    let r = h .1 in
     let two = l .prime .two-le in
-    (omega arith, l .small, omega arith, r .small, solve-fits (c .before .before .before .before .before .before .before .before .args .p) (c .before .before .before .before .before .before .before .before .args .deg) (c .before .before .before .before .before .before .before .before .args .n) (c .before .before .before .before .before .before .before .before .args .f .now) (c .before .before .before .before .before .before .before .before .args .d) (c .before .before .before .before .before .before .before .before .args .t) (c .before .before .before .before .before .before .before .before .args .inverse) (c .before .before .before .before .before .before .before .before .args .a .now) (c .before .before .before .before .before .before .before .before .args .out .now) l r _ (c .before .before .gather-column .ensures), r .below, column-below (c .before .before .before .before .before .before .before .before .args .p) (c .before .before .before .before .before .before .before .before .args .deg) (c .before .before .before .before .before .before .before .before .args .n) (c .before .before .before .before .before .before .before .before .args .f .now) (c .before .before .before .before .before .before .before .before .args .d) (c .before .before .before .before .before .before .before .before .args .t) (c .before .before .before .before .before .before .before .before .args .inverse) (c .before .before .before .before .before .before .before .before .args .a .now) (c .before .before .before .before .before .before .before .before .args .out .now) l r _ (c .before .before .gather-column .ensures))
+    let g = c .before .before .gather-column .ensures in
+    (omega arith, l .small, omega arith, r .small, solve-fits l r _ g, r .below, column-below l r _ g)
 
 array-share-prefix-column : tie.Need-array-share-prefix-column
-array-share-prefix-column c =
-    solution-fits (c .before .before .before .before .before .before .before .before .before .before .args .p) (c .before .before .before .before .before .before .before .before .before .before .args .deg) (c .before .before .before .before .before .before .before .before .before .before .args .n) (c .before .before .before .before .before .before .before .before .before .before .args .f .now) (c .before .before .before .before .before .before .before .before .before .before .args .d) (c .before .before .before .before .before .before .before .before .before .before .args .t) (c .before .before .before .before .before .before .before .before .before .before .args .inverse) (c .before .before .before .before .before .before .before .before .before .before .args .a .now) (c .before .before .before .before .before .before .before .before .before .before .args .out .now) (c .before .before .before .before .before .before .before .before .before .before .pre .0) (c .before .before .before .before .before .before .before .before .before .before .pre .1) _ (c .before .before .before .before .gather-column .ensures) _ (c .before .solve .ensures)
+array-share-prefix-column c = let h = c .before .before .before .before .before .before .before .before .before .before .pre in solution-fits (h .0) (h .1) _ (c .before .before .before .before .gather-column .ensures) _ (c .before .solve .ensures)
 
 slice-aggregate-store-column : tie.Need-slice-aggregate-store-column
-slice-aggregate-store-column c =
-    sym (solution-long (c .before .before .before .before .before .before .before .before .before .before .before .args .p) (c .before .before .before .before .before .before .before .before .before .before .before .args .deg) (c .before .before .before .before .before .before .before .before .before .before .before .args .n) (c .before .before .before .before .before .before .before .before .before .before .before .args .f .now) (c .before .before .before .before .before .before .before .before .before .before .before .args .d) (c .before .before .before .before .before .before .before .before .before .before .before .args .t) (c .before .before .before .before .before .before .before .before .before .before .before .args .inverse) (c .before .before .before .before .before .before .before .before .before .before .before .args .a .now) (c .before .before .before .before .before .before .before .before .before .before .before .args .out .now) (c .before .before .before .before .before .before .before .before .before .before .before .pre .0) (c .before .before .before .before .before .before .before .before .before .before .before .pre .1) _ (c .before .before .before .before .before .gather-column .ensures) _ (c .before .before .solve .ensures))
+slice-aggregate-store-column c = let h = c .before .before .before .before .before .before .before .before .before .before .before .pre in sym (solution-long (h .0) (h .1) _ (c .before .before .before .before .before .gather-column .ensures) _ (c .before .before .solve .ensures))
 
 store-column-requires : tie.Need-store-column-requires
 store-column-requires c κs =
-    let fits = store-fits (c .before .before .before .before .before .before .before .before .before .before .before .before .args .p) (c .before .before .before .before .before .before .before .before .before .before .before .before .args .deg) (c .before .before .before .before .before .before .before .before .before .before .before .before .args .n) (c .before .before .before .before .before .before .before .before .before .before .before .before .args .f .now) (c .before .before .before .before .before .before .before .before .before .before .before .before .args .d) (c .before .before .before .before .before .before .before .before .before .before .before .before .args .t) (c .before .before .before .before .before .before .before .before .before .before .before .before .args .inverse) (c .before .before .before .before .before .before .before .before .before .before .before .before .args .a .now) (c .before .before .before .before .before .before .before .before .before .before .before .before .args .out .now) (c .before .before .before .before .before .before .before .before .before .before .before .before .pre .0) (c .before .before .before .before .before .before .before .before .before .before .before .before .pre .1) _ (c .before .before .before .before .before .before .gather-column .ensures) _ (c .before .before .before .solve .ensures) in
-    (c .before .before .before .before .before .before .before .before .before .before .before .before .pre .0 .terms-high, c .before .before .before .before .before .before .before .before .before .before .before .before .pre .3, fits .0, fits .1)
+    let h = c .before .before .before .before .before .before .before .before .before .before .before .before .pre in
+    let fits = store-fits (h .0) (h .1) _ (c .before .before .before .before .before .before .gather-column .ensures) _ (c .before .before .before .solve .ensures) in
+    (h .0 .width-high, h .3, fits .0, fits .1)
 
 same-length : tie.Need-same-length
 same-length c = search needs
 
 returns : tie.Need-returns
 returns c =
-    column-done (c .before .before .before .before .before .before .before .before .before .before .before .before .before .before .before .args .p) (c .before .before .before .before .before .before .before .before .before .before .before .before .before .before .before .args .deg) (c .before .before .before .before .before .before .before .before .before .before .before .before .before .before .before .args .n) (c .before .before .before .before .before .before .before .before .before .before .before .before .before .before .before .args .f .now) (c .before .before .before .before .before .before .before .before .before .before .before .before .before .before .before .args .d) (c .before .before .before .before .before .before .before .before .before .before .before .before .before .before .before .args .t) (c .before .before .before .before .before .before .before .before .before .before .before .before .before .before .before .args .inverse) (c .before .before .before .before .before .before .before .before .before .before .before .before .before .before .before .args .a .now) (c .before .before .before .before .before .before .before .before .before .before .before .before .before .before .before .args .out .now) (c .before .before .before .before .before .before .before .before .before .before .before .before .before .before .before .pre .0) (c .before .before .before .before .before .before .before .before .before .before .before .before .before .before .before .pre .1) _ (c .before .before .before .before .before .before .before .before .before .gather-column .ensures) _ (c .before .before .before .before .before .before .solve .ensures)
-    (c .before .before .before .before .before .before .before .before .before .before .before .before .before .before .before .pre .2) (c .before .before .before .before .before .before .before .before .before .before .before .before .before .before .before .pre .3) (c .before .before .store-column .ensures)
+    let h = c .before .before .before .before .before .before .before .before .before .before .before .before .before .before .before .pre in
+    column-done (h .0) (h .1) _ (c .before .before .before .before .before .before .before .before .before .gather-column .ensures) _ (c .before .before .before .before .before .before .solve .ensures) (h .2) (h .3) (c .before .before .store-column .ensures)
 
 pub lift-column-spec : {M : Type 1} → statement M
 lift-column-spec =

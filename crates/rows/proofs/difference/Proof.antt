@@ -1,29 +1,28 @@
 -- `rows::difference` meets its contract: what the check lets pass is what the kernel requires.
 -- Assumes nothing.
 use mathlib.Core.Path.{_≡_, sym, _∙_}
-use Prim.Native.Nat.{_+_}
+use Prim.Native.Nat.{_+_, _*_, _≤_}
 use native.Mathlib.Omega.{arith}
 use lib.ListN.{length}
+use Rattle.numbers.specs.Limits.{mostRows}
 use Rattle.numbers.specs.Refusals.{judge}
 use Rattle.numbers.specs.declared.refusal.Verdict.the-variants.{Pass}
-use Rattle.numbers.proofs.RefusalsLaws.{Operation, operation-pass, answer-refused, answer-done, judged}
+use Rattle.numbers.proofs.RefusalsLaws.{answer-refused}
 use Rattle.series.specs.Series.{differences}
 use Rattle.rows.specs.Rows.{rowsChecks}
-use Rattle.rows.proofs.RowsLaws.{rows-small}
+use Rattle.rows.proofs.CheckLaws.{rows-ready, rows-small, rows-done}
 use borrow.Author.Needs.{needs}
 use Rattle.rows.proofs.difference.Statement.{statement}
 use Rattle.rows.proofs.difference.Tie as tie
 
 -- where the check has passed
 passed : (b : tie.After-enum-told) → let a = b .before .before .before .before .before .before .args in judge (rowsChecks (a .p) (a .d) (a .n) (a .f .now) (a .g .now) (length (a .out .now))) ≡ Pass
-passed b =
-    let a = b .before .before .before .before .before .before .args in
-    judged (rowsChecks (a .p) (a .d) (a .n) (a .f .now) (a .g .now) (length (a .out .now))) (b .before .before .check-operation .result) Pass (b .before .before .check-operation .ensures) (b .enum-told .given .1)
+passed b = sym (b .before .before .check-operation .ensures) ∙ b .enum-told .given .1
 
-facts : (b : tie.After-enum-told) → let a = b .before .before .before .before .before .before .args in Operation (a .p) (a .n) (a .f .now) (a .d + 1) (a .g .now) (a .d + 1) (a .d + 1) (length (a .out .now))
-facts b =
+small : (b : tie.After-enum-told) → let a = b .before .before .before .before .before .before .args in (a .d + 1 ≤ mostRows) × ((a .d + 1) * a .n ≤ 8448)
+small b =
     let a = b .before .before .before .before .before .before .args in
-    operation-pass (a .p) (a .n) (a .f .now) (a .d + 1) (a .g .now) (a .d + 1) (a .d + 1) (length (a .out .now)) (passed b)
+    rows-small (a .p) (a .d) (a .n) (a .f .now) (a .g .now) (length (a .out .now)) (passed b)
 
 add-rows : tie.Need-add-rows
 add-rows c = search needs
@@ -42,18 +41,14 @@ enum-told c = search needs
 
 subtract-requires : tie.Need-subtract-requires
 subtract-requires c κs =
-    let o = facts (c .before) in
-    (omega arith, omega arith, omega arith, omega arith, o .inputs .f-below, o .inputs .g-below)
+    let a = c .before .before .before .before .before .before .before .args in
+    rows-ready (a .p) (a .d) (a .n) (a .f .now) (a .g .now) (length (a .out .now)) (passed (c .before))
 
 add-t14 : tie.Need-add-t14
-add-t14 c = let o = facts (c .before .before .before .before) in record { fits = omega arith }
+add-t14 c = let s = small (c .before .before .before .before) in record { fits = omega arith }
 
 mul-t15 : tie.Need-mul-t15
-mul-t15 c =
-    let a = c .before .before .before .before .before .before .before .before .before .before .args in
-    let o = facts (c .before .before .before .before) in
-    let s = rows-small (a .d + 1) (a .n) (o .inputs .high) (o .inputs .terms-high) in
-    record { fits = omega arith }
+mul-t15 c = let s = small (c .before .before .before .before) in record { fits = omega arith }
 
 same-length : tie.Need-same-length
 same-length c = search needs
@@ -61,8 +56,7 @@ same-length c = search needs
 returns-2 : tie.Need-returns-2
 returns-2 c =
     let a = c .before .before .before .before .before .before .before .before .before .before .args in
-    let o = facts (c .before .before .before .before) in
-    answer-done (λ k. differences (a .p) k (a .f .now) (a .g .now)) _ _ _ _ _ (passed (c .before .before .before .before)) (c .before .before .subtract .ensures) (omega arith)
+    rows-done (a .p) (a .d) (a .n) (a .f .now) (a .g .now) (length (a .out .now)) (passed (c .before .before .before .before)) (λ k. differences (a .p) k (a .f .now) (a .g .now)) _ _ (c .before .before .subtract .ensures)
 
 pub difference-spec : {M : Type 1} → statement M
 difference-spec =

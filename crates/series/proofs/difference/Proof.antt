@@ -4,12 +4,16 @@ use mathlib.Core.Path.{_≡_, sym, _∙_}
 use lib.ListN.{length}
 use Rattle.numbers.specs.Refusals.{judge}
 use Rattle.numbers.specs.declared.refusal.Verdict.the-variants.{Pass}
+use Rattle.numbers.proofs.RefusalsLaws.{answer-refused}
 use Rattle.series.specs.Series.{seriesChecks, differences}
-use Rattle.numbers.proofs.RefusalsLaws.{answer-refused, answer-done}
-use Rattle.series.proofs.CheckLaws.{series-ready, series-long}
+use Rattle.series.proofs.CheckLaws.{series-ready, series-done}
 use borrow.Author.Needs.{needs}
 use Rattle.series.proofs.difference.Statement.{statement}
 use Rattle.series.proofs.difference.Tie as tie
+
+-- where the check has passed
+passed : (b : tie.After-enum-told) → let a = b .before .before .before .before .before .before .args in judge (seriesChecks (a .p) (a .n) (a .g .now) (a .h .now) (length (a .out .now))) ≡ Pass
+passed b = sym (b .before .before .check-operation .ensures) ∙ b .enum-told .given .1
 
 check-operation-requires : tie.Need-check-operation-requires
 check-operation-requires c κs = search needs
@@ -24,7 +28,9 @@ enum-told : tie.Need-enum-told
 enum-told c = search needs
 
 subtract-requires : tie.Need-subtract-requires
-subtract-requires c κs = let a = c .before .before .before .before .before .before .before .args in series-ready (a .p) (a .n) (a .g .now) (a .h .now) (length (a .out .now)) (cc)
+subtract-requires c κs =
+    let a = c .before .before .before .before .before .before .before .args in
+    series-ready (a .p) (a .n) (a .g .now) (a .h .now) (length (a .out .now)) (passed (c .before))
 
 same-length : tie.Need-same-length
 same-length c = search needs
@@ -32,8 +38,7 @@ same-length c = search needs
 returns-2 : tie.Need-returns-2
 returns-2 c =
     let a = c .before .before .before .before .before .before .before .before .before .before .args in
-    let m : judge (seriesChecks (a .p) (a .n) (a .g .now) (a .h .now) (length (a .out .now))) ≡ Pass = cc in
-    answer-done (λ k. differences (a .p) k (a .g .now) (a .h .now)) _ _ _ _ _ m (c .before .before .subtract .ensures) (series-long (a .p) (a .n) (a .g .now) (a .h .now) (length (a .out .now)) m)
+    series-done (a .p) (a .n) (a .g .now) (a .h .now) (length (a .out .now)) (passed (c .before .before .before .before)) (λ k. differences (a .p) k (a .g .now) (a .h .now)) _ _ (c .before .before .subtract .ensures)
 
 pub difference-spec : {M : Type 1} → statement M
 difference-spec =

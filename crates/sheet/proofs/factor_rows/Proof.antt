@@ -1,9 +1,9 @@
 -- `sheet::factor_rows` meets its contract.
 -- Assumes nothing.
 use mathlib.Core.Path.{_≡_, _∙_, sym, refl}
-use Rattle.sheet.specs.Sheet.{readVerdict}
 use Rattle.numbers.specs.declared.refusal.Verdict.the-variants.{Pass, Refuse}
-use Rattle.sheet.proofs.ReadingLaws.{read-pass}
+use Rattle.sheet.specs.Sheet.{readVerdict}
+use Rattle.sheet.proofs.ReadingLaws.{read-pass, sound-placed}
 use borrow.Author.Needs.{needs}
 use Rattle.sheet.proofs.factor_rows.Statement.{statement}
 use Rattle.sheet.proofs.factor_rows.Tie as tie
@@ -19,19 +19,24 @@ slice-aggregate-result c = search needs
 
 returns : tie.Need-returns
 returns c =
-    let m : readVerdict (c .before .before .before .before .before .args .sheet .now) (c .before .before .before .before .before .args .i) ≡ Refuse _ = sym (c .before .before .before .check-read .ensures) ∙ c .before .enum-told .given .1 in
+    let a = c .before .before .before .before .before .args in
+    let m : readVerdict (a .sheet .now) (a .i) ≡ Refuse _ = sym (c .before .before .before .check-read .ensures) ∙ c .before .enum-told .given .1 in
     rw m refl
 
 enum-told-2 : tie.Need-enum-told-2
 enum-told-2 c = search needs
 
-part-of-requires : tie.Need-part-of-requires
-part-of-requires c κs = read-pass (c .before .before .before .before .args .sheet .now) (c .before .before .before .before .args .i) (sym (c .before .before .check-read .ensures) ∙ c .enum-told2 .given .1)
+-- checks 13 and 16 have passed
+passed : (b : tie.After-enum-told2) → let a = b .before .before .before .before .args in readVerdict (a .sheet .now) (a .i) ≡ Pass
+passed b = sym (b .before .before .check-read .ensures) ∙ b .enum-told2 .given .1
+
+factor-part-requires : tie.Need-factor-part-requires
+factor-part-requires c κs =
+    let a = c .before .before .before .before .args in
+    let (sound, l) = read-pass (a .sheet .now) (a .i) (passed c) in (sound-placed _ sound, l)
 
 returns-2 : tie.Need-returns-2
-returns-2 c =
-    let m : readVerdict (c .before .before .before .before .before .args .sheet .now) (c .before .before .before .before .before .args .i) ≡ Pass = sym (c .before .before .before .check-read .ensures) ∙ c .before .enum-told2 .given .1 in
-    rw m (c .part-of .ensures)
+returns-2 c = rw (passed (c .before)) (c .factor-part .ensures)
 
 pub factor-rows-spec : {M : Type 1} → statement M
 factor-rows-spec =
@@ -42,5 +47,5 @@ factor-rows-spec =
     slice-aggregate-result
     returns
     enum-told-2
-    part-of-requires
+    factor-part-requires
     returns-2)

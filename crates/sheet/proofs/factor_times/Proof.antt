@@ -1,9 +1,14 @@
 -- `sheet::factor_times` meets its contract: what follows the two checks is the row product of the part.
 -- Assumes nothing.
-use mathlib.Core.Path.{_∙_, sym}
+use mathlib.Core.Path.{_≡_, _∙_, sym}
+use Prim.Native.Nat.{_<_}
 use native.Mathlib.Omega.{arith}
+use Rattle.numbers.specs.declared.refusal.Verdict.the-variants.{Pass}
 use Rattle.numbers.proofs.RefusalsLaws.{answer-refused}
-use Rattle.sheet.proofs.ReadingLaws.{read-pass, sheet-entries, power-low, times-refused, times-done}
+use Rattle.layout.specs.Layout.{count}
+use Rattle.layout.proofs.PlacesLaws.{placed-entries}
+use Rattle.sheet.specs.Sheet.{Sound, readVerdict}
+use Rattle.sheet.proofs.ReadingLaws.{read-pass, sound-placed, times-refused, times-done}
 use borrow.Author.Needs.{needs}
 use Rattle.sheet.proofs.factor_times.Statement.{statement}
 use Rattle.sheet.proofs.factor_times.Tie as tie
@@ -15,63 +20,45 @@ enum-known-r : tie.Need-enum-known-r
 enum-known-r c = search needs
 
 returns : tie.Need-returns
-returns c = answer-refused _ _ _ _ (times-refused (c .before .before .before .before .before .before .before .args .sheet .now) (c .before .before .before .before .before .before .before .args .i) (c .before .before .before .before .before .before .before .args .e) (c .before .before .before .before .before .before .before .args .g .now) _ _ (sym (c .before .before .before .check-read .ensures) ∙ c .before .r .given .1))
+returns c = let a = c .before .before .before .before .before .before .before .args in answer-refused _ _ _ _ (times-refused (a .sheet .now) (a .i) (a .e) (a .g .now) _ _ (sym (c .before .before .before .check-read .ensures) ∙ c .before .r .given .1))
 
 enum-told : tie.Need-enum-told
 enum-told c = search needs
 
-mul-power : tie.Need-mul-power
-mul-power c = search needs
+-- checks 13 and 16 have passed: the factor is there
+passed : (b : tie.After-enum-told) → let a = b .before .before .before .before .before .before .args in readVerdict (a .sheet .now) (a .i) ≡ Pass
+passed b = sym (b .before .before .check-read .ensures) ∙ b .enum-told .given .1
 
-add-power : tie.Need-add-power
-add-power c = search needs
+there : (b : tie.After-enum-told) → let a = b .before .before .before .before .before .before .args in Sound (a .sheet .now) × (a .i < count (a .sheet .now))
+there b = let a = b .before .before .before .before .before .before .args in read-pass (a .sheet .now) (a .i) (passed b)
 
-add-power-2 : tie.Need-add-power-2
-add-power-2 c = search needs
+read-header-requires : tie.Need-read-header-requires
+read-header-requires c κs = let s = c .before .before .before .before .before .before .args .sheet .now in let l = placed-entries s (sound-placed s (there c .0)) in omega arith
 
-mul-power-2 : tie.Need-mul-power-2
-mul-power-2 c = search needs
+power-at-requires : tie.Need-power-at-requires
+power-at-requires c κs = let s = c .before .before .before .before .before .before .before .args .sheet .now in let (sound, i) = there (c .before) in let h = sound-placed s sound in let l = placed-entries s h in (omega arith, omega arith)
 
-shared-slice-read-power : tie.Need-shared-slice-read-power
-shared-slice-read-power c =
-    let s = c .before .before .before .before .before .before .before .args .sheet .now in
-    let p = read-pass s (c .before .before .before .before .before .before .before .args .i) (sym (c .before .before .before .check-read .ensures) ∙ c .before .enum-told .given .1) in
-    let l = sheet-entries s (p .0) in
-    let i = p .1 in
-    omega arith
+sub-degree : tie.Need-sub-degree
+sub-degree c = let b = c .before .before in let (sound, i) = there b in let e = c .power-at .ensures in omega (arith, sound .factors .powers (b .before .before .before .before .before .before .args .i) i)
 
-shared-slice-read-multiply : tie.Need-shared-slice-read-multiply
-shared-slice-read-multiply c =
-    let s = c .before .before .before .before .before .before .before .before .args .sheet .now in
-    let p = read-pass s (c .before .before .before .before .before .before .before .before .args .i) (sym (c .before .before .before .before .check-read .ensures) ∙ c .before .before .enum-told .given .1) in
-    let l = sheet-entries s (p .0) in
-    omega arith
+factor-part-requires : tie.Need-factor-part-requires
+factor-part-requires c κs = let (sound, i) = there (c .before .before) in (sound-placed _ sound, i)
 
-sub-multiply : tie.Need-sub-multiply
-sub-multiply c =
-    let s = c .before .before .before .before .before .before .before .before .args .sheet .now in
-    let p = read-pass s (c .before .before .before .before .before .before .before .before .args .i) (sym (c .before .before .before .before .check-read .ensures) ∙ c .before .before .enum-told .given .1) in
-    let l = power-low s (p .0) (c .before .before .before .before .before .before .before .before .args .i) (p .1) in
-    omega arith
+cast-product : tie.Need-cast-product
+cast-product c = let h = there (c .before .before .before .before) .0 .width-high in let e = c .before .before .before .read-header .ensures .width-is in omega arith
 
-shared-slice-read-multiply-2 : tie.Need-shared-slice-read-multiply-2
-shared-slice-read-multiply-2 c =
-    let s = c .before .before .before .before .before .before .before .before .before .args .sheet .now in
-    let p = read-pass s (c .before .before .before .before .before .before .before .before .before .args .i) (sym (c .before .before .before .before .before .check-read .ensures) ∙ c .before .before .before .enum-told .given .1) in
-    let l = sheet-entries s (p .0) in
-    omega arith
-
-part-of-requires : tie.Need-part-of-requires
-part-of-requires c κs = read-pass (c .before .before .before .before .before .before .before .before .before .args .sheet .now) (c .before .before .before .before .before .before .before .before .before .args .i) (sym (c .before .before .before .before .before .check-read .ensures) ∙ c .before .before .before .enum-told .given .1)
-
-multiply-requires : tie.Need-multiply-requires
-multiply-requires c κs = search needs
+product-requires : tie.Need-product-requires
+product-requires c κs = search needs
 
 same-length : tie.Need-same-length
 same-length c = search needs
 
 returns-2 : tie.Need-returns-2
-returns-2 c = times-done (c .before .before .before .before .before .before .before .before .before .before .before .before .before .before .args .sheet .now) (c .before .before .before .before .before .before .before .before .before .before .before .before .before .before .args .i) (c .before .before .before .before .before .before .before .before .before .before .before .before .before .before .args .e) (c .before .before .before .before .before .before .before .before .before .before .before .before .before .before .args .g .now) (c .before .before .before .before .before .before .before .before .before .before .before .before .before .before .args .out .now) _ _ _ (sym (c .before .before .before .before .before .before .before .before .before .before .check-read .ensures) ∙ c .before .before .before .before .before .before .before .before .enum-told .given .1) (c .before .before .before .before .part-of .ensures) (c .before .before .multiply .ensures .0) (c .before .before .multiply .ensures .1)
+returns-2 c =
+    let b = c .before .before .before .before .before in
+    let a = b .before .before .before .before .before .before .before .before .before .args in
+    let w = c .before .before .product .ensures in
+    times-done (a .sheet .now) (a .i) (a .e) (a .g .now) (a .out .now) _ _ _ (passed (b .before .before .before)) (b .factor-part .ensures) _ (b .before .before .read-header .ensures) _ (b .before .power-at .ensures) (w .0) (w .1)
 
 pub factor-times-spec : {M : Type 1} → statement M
 factor-times-spec =
@@ -81,15 +68,11 @@ factor-times-spec =
     enum-known-r
     returns
     enum-told
-    mul-power
-    add-power
-    add-power-2
-    mul-power-2
-    shared-slice-read-power
-    shared-slice-read-multiply
-    sub-multiply
-    shared-slice-read-multiply-2
-    part-of-requires
-    multiply-requires
+    read-header-requires
+    power-at-requires
+    sub-degree
+    factor-part-requires
+    cast-product
+    product-requires
     same-length
     returns-2)

@@ -1,10 +1,15 @@
 -- `sheet::read_factor` meets its contract.
 -- Assumes nothing.
 use mathlib.Core.Path.{_≡_, _∙_, sym, refl}
+use Prim.Native.Nat.{_+_, _≤_}
 use native.Mathlib.Omega.{arith}
-use Rattle.sheet.specs.Sheet.{readVerdict}
+use lib.ListN.{length}
+use Rattle.numbers.specs.Limits.{largestDegree}
 use Rattle.numbers.specs.declared.refusal.Verdict.the-variants.{Pass, Refuse}
-use Rattle.sheet.proofs.ReadingLaws.{read-pass, sheet-entries}
+use Rattle.layout.specs.Layout.{polynomialFrom}
+use Rattle.layout.proofs.PlacesLaws.{placed-entries}
+use Rattle.sheet.specs.Sheet.{readVerdict}
+use Rattle.sheet.proofs.ReadingLaws.{read-pass, sound-placed}
 use borrow.Author.Needs.{needs}
 use Rattle.sheet.proofs.read_factor.Statement.{statement}
 use Rattle.sheet.proofs.read_factor.Tie as tie
@@ -17,50 +22,33 @@ enum-known-r c = search needs
 
 returns : tie.Need-returns
 returns c =
-    let m : readVerdict (c .before .before .before .before .before .args .sheet .now) (c .before .before .before .before .before .args .i) ≡ Refuse _ = sym (c .before .before .before .check-read .ensures) ∙ c .before .r .given .1 in
+    let a = c .before .before .before .before .before .args in
+    let m : readVerdict (a .sheet .now) (a .i) ≡ Refuse _ = sym (c .before .before .before .check-read .ensures) ∙ c .before .r .given .1 in
     rw m refl
 
 enum-told : tie.Need-enum-told
 enum-told c = search needs
 
-mul-at : tie.Need-mul-at
-mul-at c = search needs
+-- checks 13 and 16 have passed, so the root and the power are there
+passed : (b : tie.After-enum-told) → let a = b .before .before .before .before .args in readVerdict (a .sheet .now) (a .i) ≡ Pass
+passed b = sym (b .before .before .check-read .ensures) ∙ b .enum-told .given .1
 
-add-at : tie.Need-add-at
-add-at c = search needs
+there : (b : tie.After-enum-told) → let a = b .before .before .before .before .args in (a .i ≤ largestDegree) × (polynomialFrom (a .i + 1) ≤ length (a .sheet .now))
+there b =
+    let a = b .before .before .before .before .args in
+    let (sound, l) = read-pass (a .sheet .now) (a .i) (passed b) in
+    let h = sound-placed (a .sheet .now) sound in
+    let e = placed-entries (a .sheet .now) h in
+    (omega arith, omega arith)
 
-mul-t6 : tie.Need-mul-t6
-mul-t6 c = search needs
+root-at-requires : tie.Need-root-at-requires
+root-at-requires c κs = there c
 
-shared-slice-read-t9 : tie.Need-shared-slice-read-t9
-shared-slice-read-t9 c =
-    let s = c .before .before .before .before .before .args .sheet .now in
-    let m : readVerdict s (c .before .before .before .before .before .args .i) ≡ Pass = sym (c .before .before .before .check-read .ensures) ∙ c .before .enum-told .given .1 in
-    let p = read-pass s (c .before .before .before .before .before .args .i) m in
-    let l = sheet-entries s (p .0) in
-    let i = p .1 in
-    omega arith
-
-add-t7 : tie.Need-add-t7
-add-t7 c = search needs
-
-mul-t10 : tie.Need-mul-t10
-mul-t10 c = search needs
-
-shared-slice-read-t12 : tie.Need-shared-slice-read-t12
-shared-slice-read-t12 c =
-    let s = c .before .before .before .before .before .before .args .sheet .now in
-    let m : readVerdict s (c .before .before .before .before .before .before .args .i) ≡ Pass = sym (c .before .before .before .before .check-read .ensures) ∙ c .before .before .enum-told .given .1 in
-    let p = read-pass s (c .before .before .before .before .before .before .args .i) m in
-    let l = sheet-entries s (p .0) in
-    let i = p .1 in
-    omega arith
+power-at-requires : tie.Need-power-at-requires
+power-at-requires c κs = there (c .before)
 
 returns-2 : tie.Need-returns-2
-returns-2 c =
-    let s = c .before .before .before .before .before .before .args .sheet .now in
-    let m : readVerdict s (c .before .before .before .before .before .before .args .i) ≡ Pass = sym (c .before .before .before .before .check-read .ensures) ∙ c .before .before .enum-told .given .1 in
-    rw m refl
+returns-2 c = rw (passed (c .before .before), c .before .root-at .ensures, c .power-at .ensures) refl
 
 pub read-factor-spec : {M : Type 1} → statement M
 read-factor-spec =
@@ -70,11 +58,6 @@ read-factor-spec =
     enum-known-r
     returns
     enum-told
-    mul-at
-    add-at
-    mul-t6
-    shared-slice-read-t9
-    add-t7
-    mul-t10
-    shared-slice-read-t12
+    root-at-requires
+    power-at-requires
     returns-2)

@@ -1,97 +1,88 @@
 -- `capi::factor::put_factor` meets its contract.
 -- Assumes nothing.
-use mathlib.Core.Path.{_≡_, _∙_, sym, ap}
-use mathlib.Core.List.{[], _∷_}
-use Prim.Native.Nat.{ℕ, _*_}
+use mathlib.Core.Path.{_≡_, ap₂}
+use Prim.Native.Nat.{ℕ, _+_, _*_, _≤_}
 use native.Mathlib.Omega.{arith}
-use lib.ListN.{set}
-use Rattle.numbers.specs.Words.{over}
-use Rattle.sheet.specs.Layout.{root, power, width}
-use Rattle.sheet.proofs.ReadingLaws.{sheet-entries, part-small}
-use Rattle.capi.proofs.FactorLaws.{still-in, put-four}
+use lib.ListN.{length, length-set}
+use Rattle.numbers.specs.Limits.{largestDegree}
+use Rattle.layout.specs.Layout.{polynomialFrom, factorSize}
+use Rattle.layout.specs.Places.{Placed}
+use Rattle.layout.proofs.PlacesLaws.{placed-entries, Small, factor-small}
+use Rattle.sheet.proofs.ReadingLaws.{sound-placed}
+use Rattle.capi.proofs.FactorLaws.{factor-put}
 use borrow.Author.Needs.{needs}
 use Rattle.capi.proofs.factor.put_factor.Statement.{statement}
 use Rattle.capi.proofs.factor.put_factor.Tie as tie
 
-mul-at : tie.Need-mul-at
-mul-at c = search needs
+-- root i and its power are there, and the products on the way to its rows are small
+placed : (s : tie.Start) → Placed (s .args .sheet .now)
+placed s = sound-placed (s .args .sheet .now) (s .pre .0)
 
-add-at : tie.Need-add-at
-add-at c = search needs
+entry : (s : tie.Start) → (s .args .i ≤ largestDegree) × (polynomialFrom (s .args .i + 1) ≤ length (s .args .sheet .now))
+entry s = let h = placed s in let l = placed-entries (s .args .sheet .now) h in let r = h .count-high in let i = s .pre .1 in (omega arith, omega arith)
 
-add-power : tie.Need-add-power
-add-power c = search needs
+small : (s : tie.Start) → Small (s .args .sheet .now) (s .args .i)
+small s = factor-small (s .args .sheet .now) (placed s) (s .args .i) (s .pre .1)
 
-mul-power : tie.Need-mul-power
-mul-power c = search needs
+-- the words of its rows
+size : (b : tie.After-power-at) → let a = b .before .before .before .before .before .args in b .power-at .result * b .before .before .read-header .result .width ≡ factorSize (a .sheet .now) (a .i)
+size b = ap₂ (λ (x y : ℕ). x * y) (b .power-at .ensures) (b .before .before .read-header .ensures .width-is)
 
-shared-slice-read-power : tie.Need-shared-slice-read-power
-shared-slice-read-power c = search needs
+read-header-requires : tie.Need-read-header-requires
+read-header-requires c κs = search needs
 
-start-of-requires : tie.Need-start-of-requires
-start-of-requires c κs = search needs
+root-at-requires : tie.Need-root-at-requires
+root-at-requires c κs = entry (c .before .before .before)
 
-mul-out : tie.Need-mul-out
-mul-out c = search needs
+power-at-requires : tie.Need-power-at-requires
+power-at-requires c κs = entry (c .before .before .before .before)
 
-shared-slice-read-out : tie.Need-shared-slice-read-out
-shared-slice-read-out c = search needs
+factor-from-requires : tie.Need-factor-from-requires
+factor-from-requires c κs = let s = c .before .before .before .before .before in (placed s, s .pre .1)
+
+cast-start : tie.Need-cast-start
+cast-start c = let s = c .before .before .before .before .before .before in let e = c .factor-from .ensures in let z = small s in omega (arith, placed s .count-high)
 
 slice-write-out : tie.Need-slice-write-out
 slice-write-out c = search needs
 
 slice-write-out-2 : tie.Need-slice-write-out-2
-slice-write-out-2 c = still-in 1 (c .before .before .before .before .before .args .out .now) 0 (root (c .before .before .before .before .before .args .sheet .now) (c .before .before .before .before .before .args .i)) (omega arith)
+slice-write-out-2 c = simp length-set (omega arith)
 
 slice-write-out-3 : tie.Need-slice-write-out-3
-slice-write-out-3 c =
-    let o = c .before .before .before .before .before .args .out .now in
-    let c0 = root (c .before .before .before .before .before .args .sheet .now) (c .before .before .before .before .before .args .i) in
-    still-in 2 (set o 0 c0) 1 (power (c .before .before .before .before .before .args .sheet .now) (c .before .before .before .before .before .args .i)) (still-in 2 o 0 c0 (omega arith))
+slice-write-out-3 c = simp length-set (omega arith)
 
-shared-slice-read-out-2 : tie.Need-shared-slice-read-out-2
-shared-slice-read-out-2 c = search needs
+cast-out : tie.Need-cast-out
+cast-out c = search needs
 
-mul-out-2 : tie.Need-mul-out-2
-mul-out-2 c =
-    let s = c .before .before .before .before .before .before .args .sheet .now in
-    let b = part-small s (c .before .before .before .before .before .before .pre .0) (c .before .before .before .before .before .before .args .i) (c .before .before .before .before .before .before .pre .1) in
-    omega arith
+mul-out : tie.Need-mul-out
+mul-out c = let e = size (c .before .before) in omega (arith, small (c .before .before .before .before .before .before .before) .here)
 
 slice-write-out-4 : tie.Need-slice-write-out-4
-slice-write-out-4 c =
-    let o = c .before .before .before .before .before .before .args .out .now in
-    let c0 = root (c .before .before .before .before .before .before .args .sheet .now) (c .before .before .before .before .before .before .args .i) in
-    let c1 = power (c .before .before .before .before .before .before .args .sheet .now) (c .before .before .before .before .before .before .args .i) in
-    still-in 3 (set (set o 0 c0) 1 c1) 2 (c .before .before .start-of .result) (still-in 3 (set o 0 c0) 1 c1 (still-in 3 o 0 c0 (omega arith)))
+slice-write-out-4 c = search needs
 
 same-length : tie.Need-same-length
 same-length c = search needs
 
 returns : tie.Need-returns
 returns c =
-    let s = c .before .before .before .before .before .before .args .sheet .now in
-    let i = c .before .before .before .before .before .before .args .i in
-    put-four (root s i) (power s i) (c .before .before .start-of .result) (power s i * width s) (c .before .before .before .before .before .before .args .out .now) (c .before .before .before .before .before .before .pre .2)
-    ∙ ap (λ x. over (root s i ∷ power s i ∷ x ∷ power s i * width s ∷ []) (c .before .before .before .before .before .before .args .out .now)) (c .before .before .start-of .ensures)
+    let s = c .before .before .before .before .before .before .before in
+    factor-put (s .args .sheet .now) (s .args .i) _ _ _ _ (s .args .out .now) (s .pre .2) (c .before .before .before .root-at .ensures) (c .before .before .power-at .ensures) (c .before .factor-from .ensures) (size (c .before .before))
 
 pub put-factor-spec : {M : Type 1} → statement M
 put-factor-spec =
     tie.close
     (tie.spec
-    mul-at
-    add-at
-    add-power
-    mul-power
-    shared-slice-read-power
-    start-of-requires
-    mul-out
-    shared-slice-read-out
+    read-header-requires
+    root-at-requires
+    power-at-requires
+    factor-from-requires
+    cast-start
     slice-write-out
     slice-write-out-2
     slice-write-out-3
-    shared-slice-read-out-2
-    mul-out-2
+    cast-out
+    mul-out
     slice-write-out-4
     same-length
     returns)

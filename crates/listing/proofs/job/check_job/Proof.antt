@@ -4,12 +4,17 @@ use mathlib.Core.Path.{_≡_, _∙_, sym, ap}
 use Prim.Native.Nat.{ℕ}
 use native.Mathlib.Omega.{arith}
 use Rattle.numbers.specs.Refusals.{judge, modulusChecks}
-use Rattle.numbers.specs.declared.refusal.Verdict.the-variants.{Pass}
-use Rattle.listing.specs.Job.{half}
+use Rattle.listing.specs.Job.{jobModulus}
 use Rattle.listing.proofs.JobLaws.{job-short, job-refused, job-sizes}
 use borrow.Author.Needs.{needs}
 use Rattle.listing.proofs.job.check_job.Statement.{statement}
 use Rattle.listing.proofs.job.check_job.Tie as tie
+
+modulus-is : (b : tie.After-check-modulus) → b .check-modulus .result ≡ judge (modulusChecks (jobModulus (b .before .before .before .before .args .job .now)))
+modulus-is b = b .check-modulus .ensures ∙ ap (λ (x : ℕ). judge (modulusChecks x)) (b .before .half .ensures .0)
+
+cast-if1 : tie.Need-cast-if1
+cast-if1 c = search needs
 
 refuse-requires : tie.Need-refuse-requires
 refuse-requires c κs = search needs
@@ -27,10 +32,7 @@ enum-known-r : tie.Need-enum-known-r
 enum-known-r c = search needs
 
 returns-2 : tie.Need-returns-2
-returns-2 c =
-    let b = c .before .before .before .before .before .before .before .args .job .now in
-    let q = ap (λ (x : ℕ). judge (modulusChecks x)) (c .before .before .before .before .half .ensures .0) in
-    sym (job-refused b _ (omega arith) (cc q))
+returns-2 c = sym (job-refused (c .before .before .before .before .before .before .before .args .job .now) _ (omega arith) (sym (modulus-is (c .before .before .before)) ∙ c .before .r .given .1))
 
 enum-told : tie.Need-enum-told
 enum-told c = search needs
@@ -39,16 +41,13 @@ check-sizes-requires : tie.Need-check-sizes-requires
 check-sizes-requires c κs = search needs
 
 returns-3 : tie.Need-returns-3
-returns-3 c =
-    let b = c .before .before .before .before .before .before .before .args .job .now in
-    let q = ap (λ (x : ℕ). judge (modulusChecks x)) (c .before .before .before .before .half .ensures .0) in
-    let m : judge (modulusChecks (half b 0)) ≡ Pass = cc q in
-    c .check-sizes .ensures ∙ sym (job-sizes b (omega arith) m)
+returns-3 c = c .check-sizes .ensures ∙ sym (job-sizes (c .before .before .before .before .before .before .before .args .job .now) (omega arith) (sym (modulus-is (c .before .before .before)) ∙ c .before .enum-told .given .1))
 
 pub check-job-spec : {M : Type 1} → statement M
 check-job-spec =
     tie.close
     (tie.spec
+    cast-if1
     refuse-requires
     returns
     half-requires

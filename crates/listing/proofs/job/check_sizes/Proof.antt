@@ -1,62 +1,94 @@
--- `listing::job::check_sizes` meets its contract: rows 3 and 4, and then row 5.
+-- `listing::job::check_sizes` meets its contract: refusals 3 and 4, and then refusal 5.
 -- Assumes nothing.
-use mathlib.Core.Path.{_∙_, sym}
-use native.Mathlib.Omega.{arith}
-use Rattle.listing.specs.Job.{half}
-use Rattle.listing.proofs.JobLaws.{sizes-degree, sizes-terms, sizes-places, too-low, too-high, within-limits}
+use mathlib.Core.Path.{_≡_, _∙_, sym, ap, ap₂}
+use mathlib.Core.Bool.{_||_}
+use mathlib.Core.List.{List, _∷_}
+use Prim.Native.Nat.{ℕ}
+use lib.Dec.{ltb}
+use Rattle.numbers.specs.Words.{outside}
+use Rattle.numbers.specs.Refusals.{check, judge}
+use Rattle.numbers.proofs.RefusalsLaws.{take-check, skip-check, none-judged, inside}
+use Rattle.text.specs.Limits.{mostDegree, mostWidth}
+use Rattle.listing.specs.Job.{jobDegree, jobWidth, jobCount, misplaced, placeChecks, sizeChecks}
 use borrow.Author.Needs.{needs}
 use Rattle.listing.proofs.job.check_sizes.Statement.{statement}
 use Rattle.listing.proofs.job.check_sizes.Tie as tie
 
+abbrev file : tie.Start → List ℕ
+file s = s .args .job .now
+
+-- what each test found, by the words of the file
+degree-is : (b : tie.After-outside) → b .outside .result ≡ outside 1 mostDegree (jobDegree (file (b .before .before .before)))
+degree-is b = b .outside .ensures ∙ ap (outside 1 mostDegree) (b .before .half .ensures .0)
+
+width-is : (b : tie.After-outside2) → b .outside2 .result ≡ outside 1 mostWidth (jobWidth (file (b .before .before .before .before .before .before)))
+width-is b = b .outside2 .ensures ∙ ap (outside 1 mostWidth) (b .before .half2 .ensures .0)
+
+places-is : (b : tie.After-misplaced) → let s = file (b .before .before .before .before .before .before .before .before) in b .misplaced .result ≡ (ltb mostDegree (jobCount s) || misplaced s (jobDegree s) (jobWidth s))
+places-is b =
+    let s = file (b .before .before .before .before .before .before .before .before) in
+    b .misplaced .ensures ∙ ap₂ (λ (d n : ℕ). ltb mostDegree (jobCount s) || misplaced s d n) (b .before .before .before .before .before .before .half .ensures .0) (b .before .before .before .half2 .ensures .0)
+
+-- check 3 has passed, and then 4
+passed-3 : (b : tie.Else1) → let s = file (b .before .before .before .before) in judge (sizeChecks s) ≡ judge (check 4 (outside 1 mostWidth (jobWidth s)) 0 ∷ placeChecks s (jobDegree s) (jobWidth s))
+passed-3 b = skip-check _ _ (sym (degree-is (b .before)) ∙ b .if1 .left)
+
+passed-4 : (b : tie.Else2) → let s = file (b .before .before .before .before .before .before .before) in judge (sizeChecks s) ≡ judge (placeChecks s (jobDegree s) (jobWidth s))
+passed-4 b = passed-3 (b .before .before .before) ∙ skip-check _ _ (sym (width-is (b .before)) ∙ b .if2 .left)
+
 half-requires : tie.Need-half-requires
 half-requires c κs = search needs
+
+outside-requires : tie.Need-outside-requires
+outside-requires c κs = search needs
 
 refuse-requires : tie.Need-refuse-requires
 refuse-requires c κs = search needs
 
 returns : tie.Need-returns
-returns c = c .refuse .ensures ∙ sym (sizes-degree (c .before .before .before .before .args .job .now) (too-low 1 12 (half (c .before .before .before .before .args .job .now) 1) (omega arith)))
+returns c = c .refuse .ensures ∙ sym (take-check _ _ (sym (degree-is (c .before .before)) ∙ c .before .if1 .taken))
+
+half-requires-2 : tie.Need-half-requires-2
+half-requires-2 c κs = search needs
+
+outside-requires-2 : tie.Need-outside-requires-2
+outside-requires-2 c κs = search needs
 
 refuse-requires-2 : tie.Need-refuse-requires-2
 refuse-requires-2 c κs = search needs
 
 returns-2 : tie.Need-returns-2
-returns-2 c = c .refuse2 .ensures ∙ sym (sizes-degree (c .before .before .before .before .before .args .job .now) (too-high 1 12 (half (c .before .before .before .before .before .args .job .now) 1) (omega arith)))
+returns-2 c = c .refuse2 .ensures ∙ sym (passed-3 (c .before .before .before .before) ∙ take-check _ _ (sym (width-is (c .before .before)) ∙ c .before .if2 .taken))
 
-half-requires-2 : tie.Need-half-requires-2
-half-requires-2 c κs = search needs
+misplaced-requires : tie.Need-misplaced-requires
+misplaced-requires c κs = (
+  c .before .before .before .before .before .before .before .pre,
+  inside 1 mostDegree _ (sym (c .before .before .before .before .outside .ensures) ∙ c .before .before .before .if1 .left) .1,
+  inside 1 mostWidth _ (sym (c .before .outside2 .ensures) ∙ c .if2 .left) .1,
+)
 
 refuse-requires-3 : tie.Need-refuse-requires-3
 refuse-requires-3 c κs = search needs
 
 returns-3 : tie.Need-returns-3
-returns-3 c = c .refuse3 .ensures ∙ sym (sizes-terms (c .before .before .before .before .before .before .before .args .job .now) (within-limits 1 12 (half (c .before .before .before .before .before .before .before .args .job .now) 1) (omega arith) (omega arith)) (too-low 1 64 (half (c .before .before .before .before .before .before .before .args .job .now) 2) (omega arith)))
-
-refuse-requires-4 : tie.Need-refuse-requires-4
-refuse-requires-4 c κs = search needs
+returns-3 c = c .refuse3 .ensures ∙ sym (passed-4 (c .before .before .before) ∙ take-check _ _ (sym (places-is (c .before .before)) ∙ c .before .if3 .taken))
 
 returns-4 : tie.Need-returns-4
-returns-4 c = c .refuse4 .ensures ∙ sym (sizes-terms (c .before .before .before .before .before .before .before .before .args .job .now) (within-limits 1 12 (half (c .before .before .before .before .before .before .before .before .args .job .now) 1) (omega arith) (omega arith)) (too-high 1 64 (half (c .before .before .before .before .before .before .before .before .args .job .now) 2) (omega arith)))
-
-check-places-requires : tie.Need-check-places-requires
-check-places-requires c κs = search needs
-
-returns-5 : tie.Need-returns-5
-returns-5 c = c .check-places .ensures ∙ sizes-places (c .before .before .before .before .before .before .before .before .args .job .now) _ _ (c .before .before .before .before .before .before .half .ensures .0) (c .before .before .before .half2 .ensures .0) (within-limits 1 12 (half (c .before .before .before .before .before .before .before .before .args .job .now) 1) (omega arith) (omega arith)) (within-limits 1 64 (half (c .before .before .before .before .before .before .before .before .args .job .now) 2) (omega arith) (omega arith))
+returns-4 c = sym (passed-4 (c .before .before) ∙ skip-check _ _ (sym (places-is (c .before)) ∙ c .if3 .left) ∙ none-judged)
 
 pub check-sizes-spec : {M : Type 1} → statement M
 check-sizes-spec =
     tie.close
     (tie.spec
     half-requires
+    outside-requires
     refuse-requires
     returns
+    half-requires-2
+    outside-requires-2
     refuse-requires-2
     returns-2
-    half-requires-2
+    misplaced-requires
     refuse-requires-3
     returns-3
-    refuse-requires-4
-    returns-4
-    check-places-requires
-    returns-5)
+    returns-4)

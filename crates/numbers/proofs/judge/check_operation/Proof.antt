@@ -3,13 +3,11 @@
 use mathlib.Core.Path.{_≡_, _∙_, sym}
 use mathlib.Core.List.{[], _∷_}
 use Prim.Native.Nat.{_*_, _≤_}
-use native.Mathlib.Nat.{mul-le-mul}
 use native.Mathlib.Omega.{arith}
 use borrow.Author.Tests.{lt-ltb, le-ltb}
-use lib.Dec.{ltb}
-use Rattle.numbers.specs.Refusals.{judge, check, inputChecks}
+use Rattle.numbers.specs.Refusals.{judge, inputChecks, roomCheck, operationChecks}
 use Rattle.numbers.specs.declared.refusal.Verdict.the-variants.{Pass}
-use Rattle.numbers.proofs.RefusalsLaws.{after-pass, after-refuse, take-check, skip-check, none-judged, inputs-pass}
+use Rattle.numbers.proofs.RefusalsLaws.{after-pass, after-refuse, take-check, skip-check, none-judged, inputs-pass, few-words}
 use borrow.Author.Needs.{needs}
 use Rattle.numbers.proofs.judge.check_operation.Statement.{statement}
 use Rattle.numbers.proofs.judge.check_operation.Tie as tie
@@ -29,38 +27,36 @@ returns c =
 enum-told-2 : tie.Need-enum-told-2
 enum-told-2 c = search needs
 
+-- where checks 1 to 6 have passed
+passed : (b : tie.After-enum-told2) → let a = b .before .before .before .before .before .args in judge (inputChecks (a .p) (a .n) (a .f .now) (a .frows) (a .g .now) (a .grows) (a .rows)) ≡ Pass
+passed b = sym (b .before .before .check-inputs .ensures) ∙ b .enum-told2 .given .1
+
+only-room : (b : tie.After-enum-told2) → let a = b .before .before .before .before .before .args in
+    judge (operationChecks (a .p) (a .n) (a .f .now) (a .frows) (a .g .now) (a .grows) (a .rows) (a .room)) ≡ judge (roomCheck (a .room) (a .rows * a .n) ∷ [])
+only-room b =
+    let a = b .before .before .before .before .before .args in
+    after-pass (inputChecks (a .p) (a .n) (a .f .now) (a .frows) (a .g .now) (a .grows) (a .rows)) _ (passed b)
+
+small : (b : tie.After-enum-told2) → let a = b .before .before .before .before .before .args in a .rows * a .n ≤ 8448
+small b =
+    let a = b .before .before .before .before .before .args in
+    let i = inputs-pass (a .p) (a .n) (a .f .now) (a .frows) (a .g .now) (a .grows) (a .rows) (passed b) in
+    few-words (a .rows) (a .n) (i .high) (i .width-high)
+
 mul-words : tie.Need-mul-words
-mul-words c =
-    let a = c .before .before .before .before .before .args in
-    let m : judge (inputChecks (a .p) (a .n) (a .f .now) (a .frows) (a .g .now) (a .grows) (a .rows)) ≡ Pass = cc in
-    let i = inputs-pass (a .p) (a .n) (a .f .now) (a .frows) (a .g .now) (a .grows) (a .rows) m in
-    let l : a .rows * a .n ≤ 33 * 256 = mul-le-mul {n₂ = 33} {m₂ = 256} (i .high) (i .terms-high) in
-    record { fits = omega arith }
+mul-words c = let w = small c in record { fits = omega arith }
 
 cast-refuse : tie.Need-cast-refuse
-cast-refuse c =
-    let a = c .before .before .before .before .before .before .args in
-    let m : judge (inputChecks (a .p) (a .n) (a .f .now) (a .frows) (a .g .now) (a .grows) (a .rows)) ≡ Pass = cc in
-    let i = inputs-pass (a .p) (a .n) (a .f .now) (a .frows) (a .g .now) (a .grows) (a .rows) m in
-    let l : a .rows * a .n ≤ 33 * 256 = mul-le-mul {n₂ = 33} {m₂ = 256} (i .high) (i .terms-high) in
-    omega arith
+cast-refuse c = let w = small (c .before) in omega arith
 
 refuse-requires : tie.Need-refuse-requires
 refuse-requires c κs = search needs
 
 returns-2 : tie.Need-returns-2
-returns-2 c =
-    let a = c .before .before .before .before .before .before .before .args in
-    let m : judge (inputChecks (a .p) (a .n) (a .f .now) (a .frows) (a .g .now) (a .grows) (a .rows)) ≡ Pass = cc in
-    let row = check 10 (ltb (a .room) (a .rows * a .n)) (a .rows * a .n) in
-    c .refuse .ensures ∙ sym (after-pass (inputChecks (a .p) (a .n) (a .f .now) (a .frows) (a .g .now) (a .grows) (a .rows)) (row ∷ []) m ∙ take-check row [] (lt-ltb (a .room) (a .rows * a .n) (omega arith)))
+returns-2 c = c .refuse .ensures ∙ sym (only-room (c .before .before) ∙ take-check _ _ (lt-ltb _ _ (c .before .if1 .taken)))
 
 returns-3 : tie.Need-returns-3
-returns-3 c =
-    let a = c .before .before .before .before .before .before .args in
-    let m : judge (inputChecks (a .p) (a .n) (a .f .now) (a .frows) (a .g .now) (a .grows) (a .rows)) ≡ Pass = cc in
-    let row = check 10 (ltb (a .room) (a .rows * a .n)) (a .rows * a .n) in
-    sym (after-pass (inputChecks (a .p) (a .n) (a .f .now) (a .frows) (a .g .now) (a .grows) (a .rows)) (row ∷ []) m ∙ skip-check row [] (le-ltb (a .room) (a .rows * a .n) (omega arith)) ∙ none-judged)
+returns-3 c = sym (only-room (c .before) ∙ skip-check _ _ (le-ltb _ _ (c .if1 .left)) ∙ none-judged)
 
 pub check-operation-spec : {M : Type 1} → statement M
 check-operation-spec =

@@ -33,7 +33,8 @@ loop-less c = search needs
 
 loop-again : tie.Need-loop-again Inv-loop μ-loop
 loop-again c =
-    (search needs, below-more (λ k. getD (c .before .before .before .before .args .s .now) k 0 < c .before .before .before .before .args .p) _ (c .before .before .before .loop .inv .1) (c .if1 .left))
+    let a = c .before .before .before .before .args in
+    (search needs, below-more (λ k. getD (a .s .now) k 0 < a .p) _ (c .before .before .before .loop .inv .1) (c .if1 .left))
 
 returns : tie.Need-returns Inv-loop μ-loop
 returns c = sym (first-large-is _ _ _ (c .before .loop .inv .0) (c .before .loop .inv .1) (λ h. omega arith))

@@ -9,6 +9,7 @@ use native.Mathlib.Nat.{mod-lt, mod-eq-of-lt, one-mul, mul-le-mul, div-le-self, 
 use Rattle.numbers.proofs.DivisorLaws.{prime-none, inverse-step, inverse-is}
 use Rattle.numbers.proofs.kernel.inverse_of.Statement.{statement}
 use Rattle.numbers.proofs.kernel.inverse_of.Tie as tie
+use Rattle.numbers.specs.Limits.{modulusBound}
 
 abbrev Inv-loop : tie.InvT-loop
 Inv-loop p a modulus m₀ c₀ m c = (1 ≤ m) × (m < p) × (c < p) × ((c * a) % p ≡ m)
@@ -28,7 +29,7 @@ sub-c c = omega (arith, div-le-self (c .before .before .args .p) (c .before .loo
 mul-c : tie.Need-mul-c Inv-loop μ-loop
 mul-c c =
     let p = c .before .before .args .p in
-    let m : c .before .loop .c * (p - p / c .before .loop .m) ≤ 16777216 * 16777216 = mul-le-mul {n₂ = 16777216} {m₂ = 16777216} (omega arith) (omega arith) in
+    let m : c .before .loop .c * (p - p / c .before .loop .m) ≤ modulusBound * modulusBound = mul-le-mul {n₂ = modulusBound} {m₂ = modulusBound} (omega arith) (omega arith) in
     record { fits = omega arith }
 
 rem-c : tie.Need-rem-c Inv-loop μ-loop

@@ -1,22 +1,55 @@
--- `sheet::opening::check_shape` meets its contract: at each `return` the tests that led there say which row it is.
+-- `open::opening::check_shape` meets its contract: at each `return` the tests that led there say which row it is.
 -- Assumes nothing.
 use mathlib.Core.Path.{_≡_, _∙_, sym, ap}
-use Prim.Native.Nat.{ℕ, _+_, _*_, _%_}
+use mathlib.Core.Bool.{not}
+use mathlib.Core.List.{[], _∷_}
+use Prim.Native.Nat.{ℕ, _+_, _*_, _≤_}
 use native.Mathlib.Omega.{arith}
-use borrow.Author.Tests.{lt-ltb, le-ltb, eq-eqb, ne-eqb}
-use lib.ListN.{length, length-append}
-use Rattle.numbers.specs.Refusals.{judge, refusal, modulusChecks}
-use Rattle.numbers.specs.declared.refusal.Verdict.the-variants.{Pass, Refuse}
-use Rattle.numbers.proofs.RefusalsLaws.{after-pass, after-refuse}
-use Rattle.numbers.proofs.WordsLaws.{large-first, large-second, large-le}
-use Rattle.rows.proofs.RowsLaws.{rows-small}
-use Rattle.sheet.specs.Sheet.{Given}
-use Rattle.open.specs.Opening.{shapeOnly}
+use borrow.Author.Tests.{eq-eqb, ne-eqb}
+use lib.ListN.{length}
+use Rattle.numbers.specs.Refusals.{judge, refusal, modulusChecks, widthCheck}
+use Rattle.numbers.specs.Limits.{largestDegree, largestWidth}
+use Rattle.numbers.specs.declared.refusal.Verdict.the-variants.{Refuse}
+use Rattle.numbers.proofs.RefusalsLaws.{after-pass, after-refuse, take-check, skip-check, inside, few-words}
+use Rattle.numbers.proofs.WordsLaws.{large-le}
+use Rattle.sheet.specs.Sheet.{Given, givenOf}
+use Rattle.open.specs.Open.{sizeChecks, polynomialChecks}
+use Rattle.open.proofs.OpenChecksLaws.{longCheck, wordsCheck, large-rows, large-roots, large-none}
 use borrow.Author.Needs.{needs}
-use native.Mathlib.Nat.{mod-eq-of-lt}
-use Rattle.numbers.specs.Words.{lowWord}
 use Rattle.open.proofs.opening.check_shape.Statement.{statement}
 use Rattle.open.proofs.opening.check_shape.Tie as tie
+
+-- what is given
+abbrev given : tie.After-enum-told2 → Given
+given b = let a = b .before .before .before .before .before .args in givenOf (a .p) (a .d) (a .n) (a .rows .now) (a .roots .now)
+
+-- checks 1 and 2 have passed, and then 3, 4 and 5
+passed-2 : (b : tie.After-enum-told2) → judge (polynomialChecks (given b)) ≡ judge (sizeChecks (given b))
+passed-2 b = after-pass (modulusChecks (given b .p)) (sizeChecks (given b)) (sym (b .before .before .check-modulus .ensures) ∙ b .enum-told2 .given .1)
+
+passed-3 : (b : tie.Else1) → let g = given (b .before .before) in judge (polynomialChecks g) ≡ judge (widthCheck (g .N) ∷ longCheck g ∷ wordsCheck g ∷ [])
+passed-3 b = passed-2 (b .before .before) ∙ skip-check _ _ (sym (b .before .outside .ensures) ∙ b .if1 .left)
+
+passed-4 : (b : tie.Else2) → let g = given (b .before .before .before .before) in judge (polynomialChecks g) ≡ judge (longCheck g ∷ wordsCheck g ∷ [])
+passed-4 b = passed-3 (b .before .before) ∙ skip-check _ _ (sym (b .before .outside2 .ensures) ∙ b .if2 .left)
+
+abbrev given-5 : tie.Else3 → Given
+given-5 b = given (b .before .before .before .before .before)
+
+passed-5 : (b : tie.Else3) → judge (polynomialChecks (given-5 b)) ≡ judge (wordsCheck (given-5 b) ∷ [])
+passed-5 b = passed-4 (b .before) ∙ skip-check _ _ (ap not (eq-eqb _ _ (b .if3 .left)))
+
+-- the words of the rows are few
+degrees : (b : tie.Else1) → let g = given (b .before .before) in (1 ≤ g .D) × (g .D ≤ largestDegree)
+degrees b = inside 1 largestDegree _ (sym (b .before .outside .ensures) ∙ b .if1 .left)
+
+small : (b : tie.Else2) → let g = given (b .before .before .before .before) in (g .D + 1) * g .N ≤ 8448
+small b =
+    let g = given (b .before .before .before .before) in
+    few-words (g .D + 1) (g .N) (let d = degrees (b .before .before) .1 in omega arith) (inside 1 largestWidth _ (sym (b .before .outside2 .ensures) ∙ b .if2 .left) .1)
+
+short : (b : tie.Else3) → length (given-5 b .rows) ≤ 8448
+short b = let l = b .if3 .left in let w = small (b .before) in omega arith
 
 check-modulus-requires : tie.Need-check-modulus-requires
 check-modulus-requires c κs = search needs
@@ -26,129 +59,79 @@ enum-told c = search needs
 
 returns : tie.Need-returns
 returns c =
-    let e = c .before .before .check-modulus .ensures in
     let t = c .enum-told .given in
-    t .1 ∙ sym (after-refuse (modulusChecks (c .before .before .before .before .before .args .p)) _ _ (sym e ∙ t .1))
+    t .1 ∙ sym (after-refuse (modulusChecks (c .before .before .before .before .before .args .p)) _ _ (sym (c .before .before .check-modulus .ensures) ∙ t .1))
 
 enum-told-2 : tie.Need-enum-told-2
 enum-told-2 c = search needs
+
+outside-requires : tie.Need-outside-requires
+outside-requires c κs = search needs
 
 refuse-requires : tie.Need-refuse-requires
 refuse-requires c κs = search needs
 
 returns-2 : tie.Need-returns-2
-unfolding judge
-returns-2 c =
-    let a = c .before .before .before .before .before .before .before .args in
-    let g : Given = record { p = a .p; D = a .d; N = a .n; rows = a .rows .now; roots = a .roots .now } in
-    let m : judge (modulusChecks (a .p)) ≡ Pass = cc in
-    c .refuse .ensures ∙ sym (after-pass (modulusChecks (a .p)) (shapeOnly g) m ∙ simp (lt-ltb (a .d) 1 (omega arith)))
+returns-2 c = c .refuse .ensures ∙ sym (passed-2 (c .before .before .before) ∙ take-check _ _ (sym (c .before .before .outside .ensures) ∙ c .before .if1 .taken))
+
+outside-requires-2 : tie.Need-outside-requires-2
+outside-requires-2 c κs = search needs
 
 refuse-requires-2 : tie.Need-refuse-requires-2
 refuse-requires-2 c κs = search needs
 
 returns-3 : tie.Need-returns-3
-unfolding judge
-returns-3 c =
-    let a = c .before .before .before .before .before .before .before .before .args in
-    let g : Given = record { p = a .p; D = a .d; N = a .n; rows = a .rows .now; roots = a .roots .now } in
-    let m : judge (modulusChecks (a .p)) ≡ Pass = cc in
-    c .refuse2 .ensures ∙ sym (after-pass (modulusChecks (a .p)) (shapeOnly g) m ∙ simp (le-ltb (a .d) 1 (omega arith), lt-ltb 32 (a .d) (omega arith)))
+returns-3 c = c .refuse2 .ensures ∙ sym (passed-3 (c .before .before .before) ∙ take-check _ _ (sym (c .before .before .outside2 .ensures) ∙ c .before .if2 .taken))
+
+add-if3 : tie.Need-add-if3
+add-if3 c = let d = degrees (c .before .before) in omega arith
+
+mul-if3 : tie.Need-mul-if3
+mul-if3 c = let w = small c in omega arith
+
+cast-if3 : tie.Need-cast-if3
+cast-if3 c = let w = small c in omega arith
 
 refuse-requires-3 : tie.Need-refuse-requires-3
 refuse-requires-3 c κs = search needs
 
 returns-4 : tie.Need-returns-4
-unfolding judge
-returns-4 c =
-    let a = c .before .before .before .before .before .before .before .before .before .args in
-    let g : Given = record { p = a .p; D = a .d; N = a .n; rows = a .rows .now; roots = a .roots .now } in
-    let m : judge (modulusChecks (a .p)) ≡ Pass = cc in
-    c .refuse3 .ensures ∙ sym (after-pass (modulusChecks (a .p)) (shapeOnly g) m ∙ simp (le-ltb (a .d) 1 (omega arith), le-ltb 32 (a .d) (omega arith), lt-ltb (a .n) 1 (omega arith)))
-
-refuse-requires-4 : tie.Need-refuse-requires-4
-refuse-requires-4 c κs = search needs
-
-returns-5 : tie.Need-returns-5
-unfolding judge
-returns-5 c =
-    let a = c .before .before .before .before .before .before .before .before .before .before .args in
-    let g : Given = record { p = a .p; D = a .d; N = a .n; rows = a .rows .now; roots = a .roots .now } in
-    let m : judge (modulusChecks (a .p)) ≡ Pass = cc in
-    c .refuse4 .ensures ∙ sym (after-pass (modulusChecks (a .p)) (shapeOnly g) m ∙ simp (le-ltb (a .d) 1 (omega arith), le-ltb 32 (a .d) (omega arith), le-ltb (a .n) 1 (omega arith), lt-ltb 256 (a .n) (omega arith)))
-
-add-if5 : tie.Need-add-if5
-add-if5 c = search needs
-
-mul-if5 : tie.Need-mul-if5
-mul-if5 c = omega (arith, rows-small (c .before .before .before .before .before .before .before .before .before .args .d + 1) (c .before .before .before .before .before .before .before .before .before .args .n) (omega arith) (omega arith))
-
-cast-if5 : tie.Need-cast-if5
-cast-if5 c = omega (arith, rows-small (c .before .before .before .before .before .before .before .before .before .args .d + 1) (c .before .before .before .before .before .before .before .before .before .args .n) (omega arith) (omega arith))
-
-refuse-requires-5 : tie.Need-refuse-requires-5
-refuse-requires-5 c κs = search needs
-
-returns-6 : tie.Need-returns-6
-unfolding judge
-returns-6 c =
-    let a = c .before .before .before .before .before .before .before .before .before .before .before .args in
-    let g : Given = record { p = a .p; D = a .d; N = a .n; rows = a .rows .now; roots = a .roots .now } in
-    let m : judge (modulusChecks (a .p)) ≡ Pass = cc in
-    c .refuse5 .ensures ∙ sym (after-pass (modulusChecks (a .p)) (shapeOnly g) m ∙ simp (le-ltb (a .d) 1 (omega arith), le-ltb 32 (a .d) (omega arith), le-ltb (a .n) 1 (omega arith), le-ltb 256 (a .n) (omega arith), ne-eqb (length (a .rows .now)) ((a .d + 1) * a .n) (c .before .if5 .taken)))
+returns-4 c = c .refuse3 .ensures ∙ sym (passed-4 (c .before .before) ∙ take-check _ _ (ap not (ne-eqb _ _ (c .before .if3 .taken))))
 
 first-large-requires : tie.Need-first-large-requires
 first-large-requires c κs = search needs
 
 cast-refuse : tie.Need-cast-refuse
-cast-refuse c = omega (arith, rows-small (c .before .before .before .before .before .before .before .before .before .before .before .before .args .d + 1) (c .before .before .before .before .before .before .before .before .before .before .before .before .args .n) (omega arith) (omega arith))
+cast-refuse c = let s = short (c .before .before) in omega arith
 
-refuse-requires-6 : tie.Need-refuse-requires-6
-refuse-requires-6 c κs = search needs
+refuse-requires-4 : tie.Need-refuse-requires-4
+refuse-requires-4 c κs = search needs
 
-returns-7 : tie.Need-returns-7
-unfolding judge
-returns-7 c =
-    let a = c .before .before .before .before .before .before .before .before .before .before .before .before .before .args in
-    let g : Given = record { p = a .p; D = a .d; N = a .n; rows = a .rows .now; roots = a .roots .now } in
-    let m : judge (modulusChecks (a .p)) ≡ Pass = cc in
-    let z = c .before .before .first-large .ensures in
-    let q : c .before .before .first-large .result % 4294967296 ≡ c .before .before .first-large .result = mod-eq-of-lt (omega (arith, rows-small (a .d + 1) (a .n) (omega arith) (omega arith))) in
-    c .refuse6 .ensures ∙ sym (after-pass (modulusChecks (a .p)) (shapeOnly g) m ∙ simp (le-ltb (a .d) 1 (omega arith), le-ltb 32 (a .d) (omega arith), le-ltb (a .n) 1 (omega arith), le-ltb 256 (a .n) (omega arith), eq-eqb (length (a .rows .now)) ((a .d + 1) * a .n) (omega arith), length-append, large-first (a .p) (a .rows .now) (a .roots .now) (omega arith), ← z, lt-ltb (c .before .before .first-large .result) (length (a .rows .now) + length (a .roots .now)) (omega arith), q))
+returns-5 : tie.Need-returns-5
+returns-5 c = c .refuse4 .ensures ∙ sym (passed-5 (c .before .before .before) ∙ large-rows (given-5 (c .before .before .before)) _ (c .before .before .first-large .ensures) (c .before .if4 .taken) (short (c .before .before .before)))
 
 first-large-requires-2 : tie.Need-first-large-requires-2
 first-large-requires-2 c κs = search needs
 
 position-requires : tie.Need-position-requires
 position-requires c κs =
-    let z = c .before .before .before .first-large .ensures in
-    let l = large-le (c .before .before .before .before .before .before .before .before .before .before .before .before .before .before .args .p) (c .before .before .before .before .before .before .before .before .before .before .before .before .before .before .args .rows .now) in
-    omega (arith, rows-small (c .before .before .before .before .before .before .before .before .before .before .before .before .before .before .args .d + 1) (c .before .before .before .before .before .before .before .before .before .before .before .before .before .before .args .n) (omega arith) (omega arith))
+    let g = given-5 (c .before .before .before .before) in
+    let s = short (c .before .before .before .before) in
+    omega (arith, large-le (g .p) (g .rows), c .before .before .before .first-large .ensures)
 
-refuse-requires-7 : tie.Need-refuse-requires-7
-refuse-requires-7 c κs = search needs
+refuse-requires-5 : tie.Need-refuse-requires-5
+refuse-requires-5 c κs = search needs
 
-returns-8 : tie.Need-returns-8
-unfolding judge
-returns-8 c =
-    let a = c .before .before .before .before .before .before .before .before .before .before .before .before .before .before .before .before .args in
-    let g : Given = record { p = a .p; D = a .d; N = a .n; rows = a .rows .now; roots = a .roots .now } in
-    let m : judge (modulusChecks (a .p)) ≡ Pass = cc in
-    let z = c .before .before .before .before .before .first-large .ensures in
-    let y = c .before .before .before .first-large2 .ensures in
-    let l = large-le (a .p) (a .rows .now) in
-    let e : c .before .before .before .first-large2 .result + c .before .before .before .before .before .first-large .result ≡ length (a .rows .now) + c .before .before .before .first-large2 .result = omega arith in
-    c .refuse7 .ensures ∙ ap (λ (x : ℕ). Refuse (refusal 6 x)) (c .before .position .ensures ∙ ap lowWord e) ∙ sym (after-pass (modulusChecks (a .p)) (shapeOnly g) m ∙ simp (le-ltb (a .d) 1 (omega arith), le-ltb 32 (a .d) (omega arith), le-ltb (a .n) 1 (omega arith), le-ltb 256 (a .n) (omega arith), eq-eqb (length (a .rows .now)) ((a .d + 1) * a .n) (omega arith), length-append, large-second (a .p) (a .rows .now) (a .roots .now) (omega arith), ← y, lt-ltb (length (a .rows .now) + c .before .before .before .first-large2 .result) (length (a .rows .now) + length (a .roots .now)) (omega arith)))
+returns-6 : tie.Need-returns-6
+returns-6 c =
+    let b = c .before .before .before in
+    c .refuse5 .ensures ∙ ap (λ (x : ℕ). Refuse (refusal 6 x)) (c .before .position .ensures)
+    ∙ sym (passed-5 (b .before .before .before) ∙ large-roots (given-5 (b .before .before .before)) _ (b .before .before .first-large .ensures) (b .before .if4 .left) _ (b .first-large2 .ensures) (c .before .before .if5 .taken))
 
-returns-9 : tie.Need-returns-9
-unfolding judge
-returns-9 c =
-    let a = c .before .before .before .before .before .before .before .before .before .before .before .before .before .before .args in
-    let g : Given = record { p = a .p; D = a .d; N = a .n; rows = a .rows .now; roots = a .roots .now } in
-    let m : judge (modulusChecks (a .p)) ≡ Pass = cc in
-    let z = c .before .before .before .first-large .ensures in
-    let y = c .before .first-large2 .ensures in
-    sym (after-pass (modulusChecks (a .p)) (shapeOnly g) m ∙ simp (le-ltb (a .d) 1 (omega arith), le-ltb 32 (a .d) (omega arith), le-ltb (a .n) 1 (omega arith), le-ltb 256 (a .n) (omega arith), eq-eqb (length (a .rows .now)) ((a .d + 1) * a .n) (omega arith), length-append, large-second (a .p) (a .rows .now) (a .roots .now) (omega arith), ← y, le-ltb (length (a .rows .now) + c .before .first-large2 .result) (length (a .rows .now) + length (a .roots .now)) (omega arith)))
+returns-7 : tie.Need-returns-7
+returns-7 c =
+    let b = c .before in
+    sym (passed-5 (b .before .before .before) ∙ large-none (given-5 (b .before .before .before)) _ (b .before .before .first-large .ensures) (b .before .if4 .left) _ (b .first-large2 .ensures) (c .if5 .left))
 
 pub check-shape-spec : {M : Type 1} → statement M
 check-shape-spec =
@@ -158,25 +141,23 @@ check-shape-spec =
     enum-told
     returns
     enum-told-2
+    outside-requires
     refuse-requires
     returns-2
+    outside-requires-2
     refuse-requires-2
     returns-3
+    add-if3
+    mul-if3
+    cast-if3
     refuse-requires-3
     returns-4
-    refuse-requires-4
-    returns-5
-    add-if5
-    mul-if5
-    cast-if5
-    refuse-requires-5
-    returns-6
     first-large-requires
     cast-refuse
-    refuse-requires-6
-    returns-7
+    refuse-requires-4
+    returns-5
     first-large-requires-2
     position-requires
-    refuse-requires-7
-    returns-8
-    returns-9)
+    refuse-requires-5
+    returns-6
+    returns-7)

@@ -1,4 +1,4 @@
--- `sheet::opening::is_unit` meets its contract. The loop's invariant: the words before t are those of 1, 0, 0, ..
+-- `open::opening::is_unit` meets its contract. The loop's invariant: the words before t are those of 1, 0, 0, ..
 -- Assumes nothing.
 use mathlib.Core.Path.{_≡_, _∙_, sym}
 use Prim.Native.Nat.{ℕ, _≤_, _<_, _-_}
@@ -43,7 +43,10 @@ loop-less : tie.Need-loop-less Inv-loop μ-loop
 loop-less c = search needs
 
 loop-again : tie.Need-loop-again Inv-loop μ-loop
-loop-again c = (omega arith, omega arith, below-more (λ k. word (c .before .before .before .before .before .before .args .s .now) k ≡ unit k) _ (c .before .before .before .loop .inv .2) (let z : word (c .before .before .before .before .before .before .args .s .now) (c .before .before .before .loop .t) ≡ 0 = omega arith in z ∙ sym (unit-later (c .before .before .before .loop .t) (omega arith))))
+loop-again c =
+    let l = c .before .before .before .loop in
+    let a = c .before .before .before .before .before .before .args in
+    (omega arith, omega arith, below-more (λ k. word (a .s .now) k ≡ unit k) _ (l .inv .2) (let z : word (a .s .now) (l .t) ≡ 0 = omega arith in z ∙ sym (unit-later (l .t) (omega arith))))
 
 returns-3 : tie.Need-returns-3 Inv-loop μ-loop
 returns-3 c = unit-passes (c .before .before .before .before .args .s .now) (c .before .loop .t) (omega arith) (c .before .loop .inv .2)

@@ -1,4 +1,4 @@
--- `sheet::opening::rises` meets its contract. The loop's invariant: the words before word i rise.
+-- `open::opening::rises` meets its contract. The loop's invariant: the words before word i rise.
 -- Assumes nothing.
 use Prim.Native.Nat.{ℕ, suc, _≤_, _<_, _-_}
 use native.Mathlib.Omega.{arith}
@@ -43,7 +43,9 @@ loop-less : tie.Need-loop-less Inv-loop μ-loop
 loop-less c = search needs
 
 loop-again : tie.Need-loop-again Inv-loop μ-loop
-loop-again c = (omega arith, omega arith, rising-more (c .before .before .before .before .before .args .s .now) (c .before .before .before .before .loop .i) (omega arith) (c .before .before .before .before .loop .inv .2) (omega arith))
+loop-again c =
+    let l = c .before .before .before .before .loop in
+    (omega arith, omega arith, rising-more (c .before .before .before .before .before .args .s .now) (l .i) (omega arith) (l .inv .2) (omega arith))
 
 returns-2 : tie.Need-returns-2 Inv-loop μ-loop
 returns-2 c = rising-passes (c .before .before .args .s .now) (c .before .loop .i) (omega arith) (c .before .loop .inv .2)

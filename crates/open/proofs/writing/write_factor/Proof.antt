@@ -25,23 +25,24 @@ root-power-requires c κs =
     (omega arith, omega arith, omega arith, omega arith, omega arith)
 
 array-share-prefix-line : tie.Need-array-share-prefix-line
-array-share-prefix-line c =
-    let z = line-long (c .before .before .before .before .args .p) _ (c .before .before .before .before .args .m) _ (omega arith) (c .before .root-power .ensures) in
-    omega arith
+array-share-prefix-line c = let s = c .before .before .before .before .args in let z = line-long (s .p) _ (s .m) _ (omega arith) (c .before .root-power .ensures) in omega arith
 
 slice-aggregate-spread : tie.Need-slice-aggregate-spread
-slice-aggregate-spread c = sym (line-lower (c .before .before .before .before .before .args .p) _ (c .before .before .before .before .before .args .m) _ (omega arith) (c .before .before .root-power .ensures))
+slice-aggregate-spread c = let s = c .before .before .before .before .before .args in sym (line-lower (s .p) _ (s .m) _ (omega arith) (c .before .before .root-power .ensures))
 
 spread-requires : tie.Need-spread-requires
 spread-requires c κs =
-    let z = line-lower (c .before .before .before .before .before .before .args .p) _ (c .before .before .before .before .before .before .args .m) _ (omega arith) (c .before .before .before .root-power .ensures) in
-    (omega arith, omega arith, omega arith, c .before .before .before .before .before .before .pre .6 ∙ ap (λ (x : ℕ). x * c .before .before .before .before .before .before .args .n) (sym z))
+    let s = c .before .before .before .before .before .before in
+    let z = line-lower (s .args .p) _ (s .args .m) _ (omega arith) (c .before .before .before .root-power .ensures) in
+    (omega arith, omega arith, omega arith, s .pre .6 ∙ ap (λ (x : ℕ). x * s .args .n) (sym z))
 
 same-length : tie.Need-same-length
 same-length c = search needs
 
 returns : tie.Need-returns
-returns c = c .before .before .spread .ensures ∙ line-rows (c .before .before .before .before .before .before .before .before .before .args .p) (c .before .before .before .before .before .before .before .before .before .args .c) (c .before .before .before .before .before .before .before .before .before .args .m) _ (omega arith) (c .before .before .before .before .before .before .root-power .ensures) (c .before .before .before .before .before .before .before .before .before .args .n)
+returns c =
+    let a = c .before .before .before .before .before .before .before .before .before .args in
+    c .before .before .spread .ensures ∙ line-rows (a .p) (a .c) (a .m) _ (omega arith) (c .before .before .before .before .before .before .root-power .ensures) (a .n)
 
 pub write-factor-spec : {M : Type 1} → statement M
 write-factor-spec =

@@ -3,9 +3,9 @@
 use Prim.Native.Nat.{_≤_}
 use native.Mathlib.Omega.{arith}
 use lib.ListN.{length}
-use Rattle.sheet.specs.Sheet.{Given}
+use Rattle.numbers.specs.Limits.{largestDegree}
+use Rattle.sheet.specs.Sheet.{Given, givenOf}
 use Rattle.open.specs.Writing.{FreshReady}
-use Rattle.open.proofs.OpenCheckedLaws.{total-small}
 use Rattle.open.proofs.SheetWritingLaws.{count-small, Begun, degree-small, roots-part, factors-part, sheet-written}
 use borrow.Author.Needs.{needs}
 use Rattle.open.proofs.writing.write_sheet.Statement.{statement}
@@ -13,12 +13,12 @@ use Rattle.open.proofs.writing.write_sheet.Tie as tie
 
 -- what is given
 abbrev given : tie.Start → Given
-given s = let a = s .args in record { p = a .p; D = a .d; N = a .n; rows = a .rows .now; roots = a .roots .now }
+given s = let a = s .args in givenOf (a .p) (a .d) (a .n) (a .rows .now) (a .roots .now)
 
 ready : (s : tie.Start) → FreshReady (given s) (s .args .powers .now)
 ready s = s .pre .0
 
-few : (s : tie.Start) → length (s .args .roots .now) ≤ 32
+few : (s : tie.Start) → length (s .args .roots .now) ≤ largestDegree
 few s = count-small (given s) (s .args .powers .now) (ready s)
 
 -- what is known before the first word is written
@@ -47,8 +47,7 @@ write-header-requires c κs =
     let s = c .before .before .before .before .before .before .before in
     let h = ready s in
     let e = s .pre .3 in
-    let t = total-small (s .args .d) (s .args .n) (length (s .args .roots .now)) (h .degree-high) (h .width-high) (few s) in
-    (h .degree-high, h .width-high, few s, omega arith, omega arith)
+    (h .degree-high, h .width-high, few s, omega arith)
 
 sub-write-roots : tie.Need-sub-write-roots
 sub-write-roots c = search needs

@@ -23,7 +23,9 @@ unfolding tabulate
 loop-holds c = (omega arith, writing-none _)
 
 weighted-sum-requires : tie.Need-weighted-sum-requires Inv-loop μ-loop
-weighted-sum-requires c κs = (omega arith, omega arith, omega arith, omega arith, λ k l. omega (arith, c .before .before .before .before .before .pre .6 k l), λ k l. omega (arith, c .before .before .before .before .before .pre .7 k l))
+weighted-sum-requires c κs =
+    let h = c .before .before .before .before .before .pre in
+    (omega arith, omega arith, omega arith, omega arith, λ k l. omega (arith, h .6 k l), λ k l. omega (arith, h .7 k l))
 
 rem-out : tie.Need-rem-out Inv-loop μ-loop
 rem-out c = search needs

@@ -39,7 +39,8 @@ cast-weights c = omega (arith, c .slice-known .given (c .before .before .loop .i
 
 mul-weights-2 : tie.Need-mul-weights-2 Inv-loop μ-loop
 mul-weights-2 c =
-    let m : c .before .before .before .args .c * word (c .before .before .loop .weights) (c .before .before .loop .i - 1) ≤ 16777215 * 4294967295 = mul-le-mul {n₂ = 16777215} {m₂ = 4294967295} (omega arith) (omega (arith, c .slice-known .given (c .before .before .loop .i - 1))) in
+    let l = c .before .before .loop in
+    let m : c .before .before .before .args .c * word (l .weights) (l .i - 1) ≤ 16777215 * 4294967295 = mul-le-mul {n₂ = 16777215} {m₂ = 4294967295} (omega arith) (omega (arith, c .slice-known .given (l .i - 1))) in
     record { fits = omega arith }
 
 rem-weights : tie.Need-rem-weights Inv-loop μ-loop
@@ -62,9 +63,10 @@ loop-less c = search needs
 
 loop-again : tie.Need-loop-again Inv-loop μ-loop
 loop-again c =
+    let l = c .before .before .loop in
     let a = c .before .before .before .args in
-    let v = ap (λ (x : ℕ). a .c * x % a .p) (writing-word _ _ _ _ (c .before .before .loop .i - 1) (c .before .before .loop .inv .2) (omega arith)) ∙ line-first (a .p) (a .c) (c .before .before .loop .i) (omega arith) in
-    (omega arith, omega arith, writing-next _ _ _ _ _ (c .before .before .loop .inv .2) v (omega arith))
+    let v = ap (λ (x : ℕ). a .c * x % a .p) (writing-word _ _ _ _ (l .i - 1) (l .inv .2) (omega arith)) ∙ line-first (a .p) (a .c) (l .i) (omega arith) in
+    (omega arith, omega arith, writing-next _ _ _ _ _ (l .inv .2) v (omega arith))
 
 same-length : tie.Need-same-length Inv-loop μ-loop
 same-length c = c .before .loop .inv .2 .long ∙ length-set (c .before .before .args .weights .now) 0 1

@@ -53,7 +53,8 @@ product-row-requires : tie.Need-product-row-requires Inv-loop μ-loop
 product-row-requires c κs =
     let a = c .before .before .before .before .before .before .args in
     let l = inside (c .before) in
-    (omega arith, omega arith, c .before .before .before .before .before .before .pre .6, c .before .before .before .before .before .before .pre .7, omega arith, omega arith, omega arith, omega arith, length-part (c .before .before .loop .out) (c .before .before .loop .j * a .n) (a .n) (omega arith), c .before .before .before .before .before .before .pre .10, c .before .before .before .before .before .before .pre .11)
+    let h = c .before .before .before .before .before .before .pre in
+    (h .0, h .1, h .6, h .7, h .4, h .5, h .8, omega arith, length-part (c .before .before .loop .out) (c .before .before .loop .j * a .n) (a .n) (omega arith), h .10, h .11)
 
 add-j : tie.Need-add-j Inv-loop μ-loop
 add-j c = search needs

@@ -58,7 +58,8 @@ cast-weights c = omega (arith, c .slice-known3 .given (c .before .before .before
 
 mul-weights-2 : tie.Need-mul-weights-2 Inv-loop μ-loop
 mul-weights-2 c =
-    let m : c .before .before .before .before .before .args .c * word (c .before .before .before .loop .weights) (c .before .before .before .loop .i - 1) ≤ 16777215 * 4294967295 = mul-le-mul {n₂ = 16777215} {m₂ = 4294967295} (omega arith) (omega (arith, c .slice-known3 .given (c .before .before .before .loop .i - 1))) in
+    let l = c .before .before .before .loop in
+    let m : c .before .before .before .before .before .args .c * word (l .weights) (l .i - 1) ≤ 16777215 * 4294967295 = mul-le-mul {n₂ = 16777215} {m₂ = 4294967295} (omega arith) (omega (arith, c .slice-known3 .given (l .i - 1))) in
     record { fits = omega arith }
 
 cast-weights-2 : tie.Need-cast-weights-2 Inv-loop μ-loop
@@ -66,14 +67,18 @@ cast-weights-2 c = search needs
 
 add-weights : tie.Need-add-weights Inv-loop μ-loop
 add-weights c =
-    let m : c .before .before .before .before .before .args .c * word (c .before .before .before .loop .weights) (c .before .before .before .loop .i - 1) ≤ 16777215 * 4294967295 = mul-le-mul {n₂ = 16777215} {m₂ = 4294967295} (omega arith) (omega (arith, c .slice-known3 .given (c .before .before .before .loop .i - 1))) in
+    let l = c .before .before .before .loop in
+    let m : c .before .before .before .before .before .args .c * word (l .weights) (l .i - 1) ≤ 16777215 * 4294967295 = mul-le-mul {n₂ = 16777215} {m₂ = 4294967295} (omega arith) (omega (arith, c .slice-known3 .given (l .i - 1))) in
     record { fits = omega arith }
 
 rem-weights : tie.Need-rem-weights Inv-loop μ-loop
 rem-weights c = search needs
 
 cast-weights-3 : tie.Need-cast-weights-3 Inv-loop μ-loop
-cast-weights-3 c = omega (arith, mod-lt (c .before .before .before .before .before .args .c * word (c .before .before .before .loop .weights) (c .before .before .before .loop .i - 1) + c .before .before .before .loop .before) {m = c .before .before .before .before .before .args .p} (omega arith))
+cast-weights-3 c =
+    let l = c .before .before .before .loop in
+    let a = c .before .before .before .before .before .args in
+    omega (arith, mod-lt (a .c * word (l .weights) (l .i - 1) + l .before) {m = a .p} (omega arith))
 
 mul-weights-3 : tie.Need-mul-weights-3 Inv-loop μ-loop
 mul-weights-3 c = record { fits = omega (arith, length-set (c .before .before .before .before .before .args .weights .now) 0 0) }
@@ -89,13 +94,14 @@ loop-less c = search needs
 
 loop-again : tie.Need-loop-again Inv-loop μ-loop
 loop-again c =
+    let l = c .before .before .before .loop in
     let a = c .before .before .before .before .before .args in
-    let i = c .before .before .before .loop .i in
-    let v = next-turn (a .p) (a .c) _ i _ _ (omega arith) (writing-word _ _ _ _ (i - 1) (c .before .before .before .loop .inv .2) (omega arith)) (c .before .before .before .loop .inv .3) in (
+    let i = l .i in
+    let v = next-turn (a .p) (a .c) _ i _ _ (omega arith) (writing-word _ _ _ _ (i - 1) (l .inv .2) (omega arith)) (l .inv .3) in (
       omega arith,
       omega arith,
-      writing-next _ _ _ _ _ (c .before .before .before .loop .inv .2) v (omega arith),
-      writing-past _ _ _ i (c .before .before .before .loop .inv .2) (omega (arith, length-tabulate i (nextWeight (a .p) (a .c) (word (before (set (a .weights .now) 0 0) (word (a .weights .now) 0)))))) ∙ before-word (set (a .weights .now) 0 0) (word (a .weights .now) 0) i (omega arith) ∙ ap (word (before (set (a .weights .now) 0 0) (word (a .weights .now) 0))) (let e : i ≡ i + 1 - 1 = omega arith in e),
+      writing-next _ _ _ _ _ (l .inv .2) v (omega arith),
+      writing-past _ _ _ i (l .inv .2) (omega (arith, length-tabulate i (nextWeight (a .p) (a .c) (word (before (set (a .weights .now) 0 0) (word (a .weights .now) 0)))))) ∙ before-word (set (a .weights .now) 0 0) (word (a .weights .now) 0) i (omega arith) ∙ ap (word (before (set (a .weights .now) 0 0) (word (a .weights .now) 0))) (let e : i ≡ i + 1 - 1 = omega arith in e),
       omega (arith, c .before .slice-known2 .given i),
     )
 

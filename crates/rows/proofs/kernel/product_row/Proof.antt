@@ -26,7 +26,9 @@ add-passes : tie.Need-add-passes Inv-loop μ-loop
 add-passes c = search needs
 
 passes-requires : tie.Need-passes-requires Inv-loop μ-loop
-passes-requires c κs = (c .before .before .before .before .before .pre .2, c .before .before .before .before .before .pre .3, omega arith, omega arith, omega arith, omega arith, omega arith, λ k l. omega (arith, c .before .before .before .before .before .pre .9 k l), λ k l. omega (arith, c .before .before .before .before .before .pre .10 k l))
+passes-requires c κs =
+    let h = c .before .before .before .before .before .pre in
+    (h .2, h .3, omega arith, omega arith, omega arith, omega arith, omega arith, λ k l. omega (arith, h .9 k l), λ k l. omega (arith, h .10 k l))
 
 rem-out : tie.Need-rem-out Inv-loop μ-loop
 rem-out c = search needs

@@ -6,7 +6,7 @@ use native.Mathlib.Omega.{arith}
 use lib.ListN.{length}
 use Rattle.algebra.specs.Sums.{sumTo, sumTo-zero}
 use Rattle.series.proofs.SeriesLaws.{sum-next}
-use Rattle.rows.proofs.RowsLaws.{row-fits, rows-small, weightTerm, weight-bound, weights-bound, weight-is}
+use Rattle.rows.proofs.RowsLaws.{RowIn, row-in, far, weightTerm, weight-bound, weights-bound, weight-is}
 use borrow.Author.Needs.{needs}
 use Rattle.rows.proofs.kernel.weighted_sum.Statement.{statement}
 use Rattle.rows.proofs.kernel.weighted_sum.Tie as tie
@@ -17,35 +17,27 @@ Inv-loop f n weights t sum₀ i₀ sum i = (i ≤ length weights) × (sum ≡ su
 abbrev μ-loop : tie.MeasureT-loop
 μ-loop f n weights t sum₀ i₀ sum i = length weights - i
 
+-- row i lies within f
+row : (b : tie.In-loop Inv-loop μ-loop) → let a = b .before .before .args in RowIn (b .before .loop .i) (a .n) (a .f .now)
+row b =
+    let a = b .before .before .args in
+    let h = b .before .before .pre in
+    row-in (b .before .loop .i) (length (a .weights .now)) (a .n) (a .f .now) (omega arith) (h .1) (h .2) (h .0)
+
 loop-holds : tie.Need-loop-holds Inv-loop μ-loop
 loop-holds c = (omega arith, omega (arith, sumTo-zero (weightTerm (c .args .f .now) (c .args .n) (c .args .weights .now) (c .args .t))))
 
 mul-sum : tie.Need-mul-sum Inv-loop μ-loop
-mul-sum c =
-    let a = c .before .before .args in
-    let l = row-fits (c .before .loop .i) (length (a .weights .now)) (a .n) (omega arith) in
-    let s = rows-small (length (a .weights .now)) (a .n) (c .before .before .pre .1) (c .before .before .pre .2) in
-    record { fits = omega arith }
+mul-sum c = record { fits = far (row c .start) }
 
 add-sum : tie.Need-add-sum Inv-loop μ-loop
-add-sum c =
-    let a = c .before .before .args in
-    let l = row-fits (c .before .loop .i) (length (a .weights .now)) (a .n) (omega arith) in
-    let s = rows-small (length (a .weights .now)) (a .n) (c .before .before .pre .1) (c .before .before .pre .2) in
-    record { fits = omega arith }
+add-sum c = let l = row c in record { fits = omega arith }
 
 mul-sum-2 : tie.Need-mul-sum-2 Inv-loop μ-loop
-mul-sum-2 c =
-    let a = c .before .before .args in
-    let l = row-fits (c .before .loop .i) (length (a .weights .now)) (a .n) (omega arith) in
-    let s = rows-small (length (a .weights .now)) (a .n) (c .before .before .pre .1) (c .before .before .pre .2) in
-    record { fits = omega arith }
+mul-sum-2 c = let l = row c in record { fits = omega arith }
 
 shared-slice-read-sum : tie.Need-shared-slice-read-sum Inv-loop μ-loop
-shared-slice-read-sum c =
-    let a = c .before .before .before .args in
-    let l = row-fits (c .before .before .loop .i) (length (a .weights .now)) (a .n) (omega arith) in
-    omega arith
+shared-slice-read-sum c = let l = row (c .before) in omega arith
 
 cast-sum : tie.Need-cast-sum Inv-loop μ-loop
 cast-sum c = omega (arith, c .shared-slice-known .given (c .before .before .loop .i * c .before .before .before .args .n + c .before .before .before .args .t))
@@ -62,13 +54,15 @@ cast-sum-2 c = omega (arith, c .shared-slice-known2 .given (c .before .before .b
 mul-sum-4 : tie.Need-mul-sum-4 Inv-loop μ-loop
 mul-sum-4 c =
     let a = c .before .before .before .before .args in
-    record { fits = omega (arith, weight-bound (a .f .now) (a .n) (a .weights .now) (a .t) (c .before .before .before .before .pre .4) (c .before .before .before .before .pre .5) (c .before .before .before .loop .i)) }
+    let h = c .before .before .before .before .pre in
+    record { fits = omega (arith, weight-bound (a .f .now) (a .n) (a .weights .now) (a .t) (h .4) (h .5) (c .before .before .before .loop .i)) }
 
 add-sum-2 : tie.Need-add-sum-2 Inv-loop μ-loop
 add-sum-2 c =
     let a = c .before .before .before .before .args in
-    let b = weight-bound (a .f .now) (a .n) (a .weights .now) (a .t) (c .before .before .before .before .pre .4) (c .before .before .before .before .pre .5) (c .before .before .before .loop .i) in
-    let s = weights-bound (a .f .now) (a .n) (a .weights .now) (a .t) (c .before .before .before .before .pre .4) (c .before .before .before .before .pre .5) (c .before .before .before .loop .i) in
+    let h = c .before .before .before .before .pre in
+    let b = weight-bound (a .f .now) (a .n) (a .weights .now) (a .t) (h .4) (h .5) (c .before .before .before .loop .i) in
+    let s = weights-bound (a .f .now) (a .n) (a .weights .now) (a .t) (h .4) (h .5) (c .before .before .before .loop .i) in
     record { fits = omega arith }
 
 add-i : tie.Need-add-i Inv-loop μ-loop
@@ -78,7 +72,9 @@ loop-less : tie.Need-loop-less Inv-loop μ-loop
 loop-less c = search needs
 
 loop-again : tie.Need-loop-again Inv-loop μ-loop
-loop-again c = (omega arith, omega (arith, sum-next (c .before .before .before .loop .i) (weightTerm (c .before .before .before .before .args .f .now) (c .before .before .before .before .args .n) (c .before .before .before .before .args .weights .now) (c .before .before .before .before .args .t))))
+loop-again c =
+    let a = c .before .before .before .before .args in
+    (omega arith, omega (arith, sum-next (c .before .before .before .loop .i) (weightTerm (a .f .now) (a .n) (a .weights .now) (a .t))))
 
 returns : tie.Need-returns Inv-loop μ-loop
 returns c =

@@ -50,10 +50,11 @@ slice-aggregate-dot c = sym (length-take-le _ _ (omega arith))
 
 dot-requires : tie.Need-dot-requires Inv-loop μ-loop
 dot-requires c κs =
+    let turn = c .before .before .before .loop in
     let a = c .before .before .before .before .before .before .before .before .before .args in
-    let t = c .before .before .before .loop .t in
-    let w = written-columns (a .p) t (a .f .now) (a .g .now) _ _ (c .before .before .before .loop .inv .1) in
-    let l : length (take t (c .before .before .before .loop .out)) ≡ t = length-take-le _ _ (omega arith) in (
+    let t = turn .t in
+    let w = written-columns (a .p) t (a .f .now) (a .g .now) _ _ (turn .inv .1) in
+    let l : length (take t (turn .out)) ≡ t = length-take-le _ _ (omega arith) in (
       omega (arith, length-from (a .g .now) 1),
       omega arith,
       omega arith,
@@ -74,12 +75,15 @@ sub-out : tie.Need-sub-out Inv-loop μ-loop
 sub-out c = omega (arith, mod-lt (c .before .dot .result) {m = c .before .before .before .before .before .before .before .before .before .before .before .args .p} (omega arith))
 
 add-out : tie.Need-add-out Inv-loop μ-loop
-add-out c = omega (arith, word-below (c .before .before .before .before .before .before .before .before .before .before .before .args .p) (c .before .before .before .before .before .before .before .before .before .before .before .args .f .now) (omega arith) (c .before .before .before .before .before .before .before .before .before .before .before .pre .5) (c .before .before .before .before .before .loop .t))
+add-out c =
+    let a = c .before .before .before .before .before .before .before .before .before .before .before .args in
+    omega (arith, word-below (a .p) (a .f .now) (omega arith) (c .before .before .before .before .before .before .before .before .before .before .before .pre .5) (c .before .before .before .before .before .loop .t))
 
 mul-out : tie.Need-mul-out Inv-loop μ-loop
 mul-out c =
-    let p = c .before .before .before .before .before .before .before .before .before .before .before .args .p in
-    let h = word-below p (c .before .before .before .before .before .before .before .before .before .before .before .args .f .now) (omega arith) (c .before .before .before .before .before .before .before .before .before .before .before .pre .5) (c .before .before .before .before .before .loop .t) in
+    let a = c .before .before .before .before .before .before .before .before .before .before .before .args in
+    let p = a .p in
+    let h = word-below p (a .f .now) (omega arith) (c .before .before .before .before .before .before .before .before .before .before .before .pre .5) (c .before .before .before .before .before .loop .t) in
     let m : (c .word-or-zero .result + (p - c .before .dot .result % p)) * c .before .before .before .before .before .before .inverse-of .result ≤ 33554432 * 4294967295 = mul-le-mul {n₂ = 33554432} {m₂ = 4294967295} (omega arith) (omega arith) in
     record { fits = omega arith }
 
@@ -87,7 +91,9 @@ rem-out-2 : tie.Need-rem-out-2 Inv-loop μ-loop
 rem-out-2 c = search needs
 
 cast-out : tie.Need-cast-out Inv-loop μ-loop
-cast-out c = omega (arith, mod-lt ((c .word-or-zero .result + (c .before .before .before .before .before .before .before .before .before .before .before .args .p - c .before .dot .result % c .before .before .before .before .before .before .before .before .before .before .before .args .p)) * c .before .before .before .before .before .before .inverse-of .result) {m = c .before .before .before .before .before .before .before .before .before .before .before .args .p} (omega arith))
+cast-out c =
+    let a = c .before .before .before .before .before .before .before .before .before .before .before .args in
+    omega (arith, mod-lt ((c .word-or-zero .result + (a .p - c .before .dot .result % a .p)) * c .before .before .before .before .before .before .inverse-of .result) {m = a .p} (omega arith))
 
 mul-out-2 : tie.Need-mul-out-2 Inv-loop μ-loop
 mul-out-2 c = search needs
@@ -103,9 +109,10 @@ loop-less c = search needs
 
 loop-again : tie.Need-loop-again Inv-loop μ-loop
 loop-again c =
-    let w = written-columns _ _ _ _ _ _ (c .before .before .before .before .before .loop .inv .1) in
+    let l = c .before .before .before .before .before .loop in
+    let w = written-columns _ _ _ _ _ _ (l .inv .1) in
     let v = turn-column _ _ _ _ _ _ _ _ w (c .before .dot .ensures) (c .word-or-zero .ensures) (c .before .before .before .before .before .before .inverse-of .ensures) in
-    (omega arith, column-store _ _ _ _ _ _ _ (c .before .before .before .before .before .loop .inv .1) v (omega arith))
+    (omega arith, column-store _ _ _ _ _ _ _ (l .inv .1) v (omega arith))
 
 same-length : tie.Need-same-length Inv-loop μ-loop
 same-length c = search needs

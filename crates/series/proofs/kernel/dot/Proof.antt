@@ -43,12 +43,15 @@ cast-sum-2 : tie.Need-cast-sum-2 Inv-loop μ-loop
 cast-sum-2 c = omega (arith, c .shared-slice-known2 .given (c .before .before .before .before .args .k - 1 - c .before .before .before .loop .i))
 
 mul-sum-3 : tie.Need-mul-sum-3 Inv-loop μ-loop
-mul-sum-3 c = omega (arith, term-bound (c .before .before .before .before .args .g .now) (c .before .before .before .before .args .h .now) (c .before .before .before .before .args .k) (c .before .before .before .before .pre .3) (c .before .before .before .before .pre .4) (c .before .before .before .loop .i))
+mul-sum-3 c =
+    let a = c .before .before .before .before .args in
+    omega (arith, term-bound (a .g .now) (a .h .now) (a .k) (c .before .before .before .before .pre .3) (c .before .before .before .before .pre .4) (c .before .before .before .loop .i))
 
 add-sum : tie.Need-add-sum Inv-loop μ-loop
 add-sum c =
+    let h = c .before .before .before .before .pre in
     let a = c .before .before .before .before .args in
-    omega (arith, term-bound (a .g .now) (a .h .now) (a .k) (c .before .before .before .before .pre .3) (c .before .before .before .before .pre .4) (c .before .before .before .loop .i), dot-bound (a .g .now) (a .h .now) (a .k) (c .before .before .before .before .pre .3) (c .before .before .before .before .pre .4) (c .before .before .before .loop .i))
+    omega (arith, term-bound (a .g .now) (a .h .now) (a .k) (h .3) (h .4) (c .before .before .before .loop .i), dot-bound (a .g .now) (a .h .now) (a .k) (h .3) (h .4) (c .before .before .before .loop .i))
 
 add-i : tie.Need-add-i Inv-loop μ-loop
 add-i c = search needs
@@ -57,12 +60,15 @@ loop-less : tie.Need-loop-less Inv-loop μ-loop
 loop-less c = search needs
 
 loop-again : tie.Need-loop-again Inv-loop μ-loop
-loop-again c = (omega arith, omega (arith, sum-next (c .before .before .before .loop .i) (dotTerm (c .before .before .before .before .args .g .now) (c .before .before .before .before .args .h .now) (c .before .before .before .before .args .k))))
+loop-again c =
+    let a = c .before .before .before .before .args in
+    (omega arith, omega (arith, sum-next (c .before .before .before .loop .i) (dotTerm (a .g .now) (a .h .now) (a .k))))
 
 returns : tie.Need-returns Inv-loop μ-loop
 returns c =
-    let f = dotTerm (c .before .before .args .g .now) (c .before .before .args .h .now) (c .before .before .args .k) in
-    let e : c .before .loop .i ≡ c .before .before .args .k = omega arith in
+    let a = c .before .before .args in
+    let f = dotTerm (a .g .now) (a .h .now) (a .k) in
+    let e : c .before .loop .i ≡ a .k = omega arith in
     c .before .loop .inv .1 ∙ ap (λ (n : ℕ). sumTo n f) e ∙ dot-is _ _ _
 
 pub dot-spec : {M : Type 1} → statement M

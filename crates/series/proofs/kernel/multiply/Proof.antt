@@ -26,7 +26,9 @@ add-dot : tie.Need-add-dot Inv-loop μ-loop
 add-dot c = search needs
 
 dot-requires : tie.Need-dot-requires Inv-loop μ-loop
-dot-requires c κs = (omega arith, omega arith, omega arith, λ k l. omega (arith, c .before .before .before .before .before .pre .5 k l), λ k l. omega (arith, c .before .before .before .before .before .pre .6 k l))
+dot-requires c κs =
+    let h = c .before .before .before .before .before .pre in
+    (omega arith, omega arith, omega arith, λ k l. omega (arith, h .5 k l), λ k l. omega (arith, h .6 k l))
 
 rem-out : tie.Need-rem-out Inv-loop μ-loop
 rem-out c = search needs

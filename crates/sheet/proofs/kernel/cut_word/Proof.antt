@@ -15,7 +15,9 @@ shared-slice-read-result : tie.Need-shared-slice-read-result
 shared-slice-read-result c = search needs
 
 returns : tie.Need-returns
-returns c = sym (up-low (c .before .before .args .k) (word (c .before .before .args .row .now)) (c .before .before .args .t) (omega arith))
+returns c =
+    let a = c .before .before .args in
+    sym (up-low (a .k) (word (a .row .now)) (a .t) (omega arith))
 
 returns-2 : tie.Need-returns-2
 returns-2 c = sym (up-high (c .before .args .k) (word (c .before .args .row .now)) (c .before .args .t) (omega arith))

@@ -40,7 +40,9 @@ loop-less : tie.Need-loop-less Inv-loop μ-loop
 loop-less c = search needs
 
 loop-again : tie.Need-loop-again Inv-loop μ-loop
-loop-again c = (omega arith, below-more (λ l. word (c .before .before .before .before .before .before .before .args .stored .now) l ≡ upTo (c .before .before .before .before .before .before .before .args .k) (word (c .before .before .before .before .before .before .before .args .computed .now)) l) _ (c .before .before .before .before .loop .inv .1) (c .if1 .left ∙ c .before .cut-word .ensures))
+loop-again c =
+    let a = c .before .before .before .before .before .before .before .args in
+    (omega arith, below-more (λ l. word (a .stored .now) l ≡ upTo (a .k) (word (a .computed .now)) l) _ (c .before .before .before .before .loop .inv .1) (c .if1 .left ∙ c .before .cut-word .ensures))
 
 returns-2 : tie.Need-returns-2 Inv-loop μ-loop
 returns-2 c = decides-yes (λ i l. c .before .loop .inv .1 i (omega arith))

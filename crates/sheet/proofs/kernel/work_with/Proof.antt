@@ -1,92 +1,43 @@
--- `sheet::kernel::work_with` meets its contract.
+-- `sheet::kernel::work_with` meets its contract: what is loaded is what finding the factors wants.
 -- Assumes nothing.
 use mathlib.Core.Path.{sym, ap, _∙_}
 use Prim.Native.Nat.{_+_}
-use borrow.Author.Needs.{needs}
-use Rattle.sheet.proofs.WorkLaws.{work-listed, worked-out, lent-sum, lent-roots, lent-powers, lent-rows, lent-count}
+use native.Mathlib.Omega.{arith}
+use Rattle.layout.specs.Places.{Placed}
+use Rattle.front.proofs.FrontLaws.{shape-placed}
+use Rattle.sheet.proofs.WorkLaws.{LowerRows, lower-long, lower-rows, loaded-sum, work-listed, worked-out}
 use borrow.Author.Needs.{needs}
 use Rattle.sheet.proofs.kernel.work_with.Statement.{statement}
 use Rattle.sheet.proofs.kernel.work_with.Tie as tie
 
-shared-slice-read-n : tie.Need-shared-slice-read-n
-shared-slice-read-n c = search needs
+load-roots-requires : tie.Need-load-roots-requires
+load-roots-requires c κs = search needs
 
-cast-n : tie.Need-cast-n
-cast-n c = search needs
+placed : (b : tie.After-load-roots) → Placed (b .before .before .before .before .before .before .before .before .before .args .s .now)
+placed b = shape-placed _ (b .before .before .before .before .before .before .before .before .before .pre .0 .shape)
 
-shared-slice-read-polynomial-from : tie.Need-shared-slice-read-polynomial-from
-shared-slice-read-polynomial-from c = search needs
-
-cast-polynomial-from : tie.Need-cast-polynomial-from
-cast-polynomial-from c = search needs
-
-polynomial-from-requires : tie.Need-polynomial-from-requires
-polynomial-from-requires c κs = search needs
-
-shared-slice-read-end : tie.Need-shared-slice-read-end
-shared-slice-read-end c = search needs
-
-cast-end : tie.Need-cast-end
-cast-end c = search needs
-
-mul-end : tie.Need-mul-end
-mul-end c = search needs
-
-add-end : tie.Need-add-end
-add-end c = search needs
-
-sub-load-column : tie.Need-sub-load-column
-sub-load-column c = search needs
-
-part-load-column-start : tie.Need-part-load-column-start
-part-load-column-start c = search needs
-
-part-load-column-end : tie.Need-part-load-column-end
-part-load-column-end c = search needs
-
-load-column-requires : tie.Need-load-column-requires
-load-column-requires c κs = search needs
-
-sub-load-column-2 : tie.Need-sub-load-column-2
-sub-load-column-2 c = search needs
-
-part-load-column-start-2 : tie.Need-part-load-column-start-2
-part-load-column-start-2 c = search needs
-
-part-load-column-end-2 : tie.Need-part-load-column-end-2
-part-load-column-end-2 c = search needs
-
-load-column-requires-2 : tie.Need-load-column-requires-2
-load-column-requires-2 c κs = search needs
-
-mul-copy : tie.Need-mul-copy
-mul-copy c = search needs
-
-sub-copy : tie.Need-sub-copy
-sub-copy c = search needs
-
-part-copy-start : tie.Need-part-copy-start
-part-copy-start c = search needs
-
-part-copy-end : tie.Need-part-copy-end
-part-copy-end c = search needs
+lower-part-requires : tie.Need-lower-part-requires
+lower-part-requires c κs = placed (c .before .before .before .before)
 
 copy-requires : tie.Need-copy-requires
-copy-requires c κs = search needs
+copy-requires c κs = let b = c .before in let r = b .before .before .before .before .before .before .before .before .before .before .before .before .before .before .pre .7 in let l = lower-long _ (placed (b .before .before .before .before .before)) _ (b .lower-part .ensures) in omega arith
 
-shared-slice-read-find-factors : tie.Need-shared-slice-read-find-factors
-shared-slice-read-find-factors c = search needs
+-- the rows are the polynomial's then
+lower : (b : tie.After-copy) → LowerRows (b .before .before .before .before .before .before .before .before .before .before .before .before .before .before .before .before .args .s .now) (b .copy .last .1 .0)
+lower b = lower-rows _ (placed (b .before .before .before .before .before .before .before)) _ _ _ (b .before .before .before .before .before .before .before .before .before .before .before .before .before .before .before .before .pre .7) (b .before .before .lower-part .ensures) (b .copy .ensures)
+
+read-header-requires : tie.Need-read-header-requires
+read-header-requires c κs = search needs
 
 find-factors-requires : tie.Need-find-factors-requires
 find-factors-requires c κs =
-    let a = c .before .before .before .before .before .before .before .before .before .before .before .before .before .before .before .before .before .before .before .before .before .before .before .before .before .before .before .before .before .before .before .args in
-    let r = c .before .before .before .before .before .before .before .before .before .before .before .before .before .before .before .before .before .before .before .before .before .before .before .before .before .before .before .before .before .before .before .pre in
-    let e = c .before .before .before .before .before .before .before .before .before .before .before .before .before .before .before .before .before .before .before .before .before .before .polynomial-from .ensures in (
-      work-listed (a .s .now) (r .0) (a .w) (r .1) (r .2) _ _ _ (lent-count (a .s .now) (r .0) _ e (a .roots .now) _ (r .3) 0 (c .before .before .before .before .before .before .before .before .before .before .before .before .before .before .before .before .before .before .load-column .ensures)) (lent-count (a .s .now) (r .0) _ e (a .powers .now) _ (r .4) 1 (c .before .before .before .before .before .before .before .before .before .before .before .before .before .load-column2 .ensures)) (lent-rows (a .s .now) (r .0) _ e (a .rows .now) _ (r .7) (c .before .before .before .before .before .before .before .before .copy .ensures) .0)
-          (lent-roots (a .s .now) (r .0) _ e (a .roots .now) _ (r .3) (c .before .before .before .before .before .before .before .before .before .before .before .before .before .before .before .before .before .before .load-column .ensures)) (lent-powers (a .s .now) (r .0) _ e (a .powers .now) _ (r .4) (c .before .before .before .before .before .before .before .before .before .before .before .before .before .load-column2 .ensures)) (lent-rows (a .s .now) (r .0) _ e (a .rows .now) _ (r .7) (c .before .before .before .before .before .before .before .before .copy .ensures) .1),
-      r .5 ∙ sym (lent-sum (a .s .now) (r .0) _ e (a .powers .now) _ (r .4) (c .before .before .before .before .before .before .before .before .before .before .before .before .before .load-column2 .ensures)),
-      r .6 ∙ ap (λ d. d + 1) (sym (lent-sum (a .s .now) (r .0) _ e (a .powers .now) _ (r .4) (c .before .before .before .before .before .before .before .before .before .before .before .before .before .load-column2 .ensures))),
-    )
+    let b = c .before .before .before .before .before .before .before .before in
+    let a = b .before .before .before .before .before .before .before .before .before .before .before .before .before .before .before .before .args in
+    let r = b .before .before .before .before .before .before .before .before .before .before .before .before .before .before .before .before .pre in
+    let s = a .s .now in
+    let given = b .before .before .before .before .before .before .before .load-roots .ensures in
+    let sum = sym (loaded-sum s (r .0) _ _ given) in
+    (work-listed s (r .0) (a .w) (r .1) (r .2) _ _ _ given (lower b) _ (c .before .before .before .before .before .read-header .ensures), r .5 ∙ sum, r .6 ∙ ap (λ d. d + 1) sum)
 
 same-length : tie.Need-same-length
 same-length c = search needs
@@ -105,39 +56,21 @@ same-length-5 c = search needs
 
 returns : tie.Need-returns
 returns c =
-    let a = c .before .before .before .before .before .before .before .before .before .before .before .before .before .before .before .before .before .before .before .before .before .before .before .before .before .before .before .before .before .before .before .before .before .before .before .before .before .before .args in
-    let r = c .before .before .before .before .before .before .before .before .before .before .before .before .before .before .before .before .before .before .before .before .before .before .before .before .before .before .before .before .before .before .before .before .before .before .before .before .before .before .pre in
-    let e = c .before .before .before .before .before .before .before .before .before .before .before .before .before .before .before .before .before .before .before .before .before .before .before .before .before .before .before .before .before .polynomial-from .ensures in
-    worked-out (a .s .now) (r .0) (a .w) (r .1) (r .2) _ _ _ (lent-count (a .s .now) (r .0) _ e (a .roots .now) _ (r .3) 0 (c .before .before .before .before .before .before .before .before .before .before .before .before .before .before .before .before .before .before .before .before .before .before .before .before .before .load-column .ensures)) (lent-count (a .s .now) (r .0) _ e (a .powers .now) _ (r .4) 1 (c .before .before .before .before .before .before .before .before .before .before .before .before .before .before .before .before .before .before .before .before .load-column2 .ensures)) (lent-rows (a .s .now) (r .0) _ e (a .rows .now) _ (r .7) (c .before .before .before .before .before .before .before .before .before .before .before .before .before .before .before .copy .ensures) .0)
-    (lent-roots (a .s .now) (r .0) _ e (a .roots .now) _ (r .3) (c .before .before .before .before .before .before .before .before .before .before .before .before .before .before .before .before .before .before .before .before .before .before .before .before .before .load-column .ensures)) (lent-powers (a .s .now) (r .0) _ e (a .powers .now) _ (r .4) (c .before .before .before .before .before .before .before .before .before .before .before .before .before .before .before .before .before .before .before .before .load-column2 .ensures)) (lent-rows (a .s .now) (r .0) _ e (a .rows .now) _ (r .7) (c .before .before .before .before .before .before .before .before .before .before .before .before .before .before .before .copy .ensures) .1) _ _ (c .before .before .before .before .before .before .find-factors .ensures)
+    let b = c .before .before .before .before .before .before .before .before .before .before .before .before .before .before .before in
+    let a = b .before .before .before .before .before .before .before .before .before .before .before .before .before .before .before .before .args in
+    let r = b .before .before .before .before .before .before .before .before .before .before .before .before .before .before .before .before .pre in
+    let s = a .s .now in
+    let given = b .before .before .before .before .before .before .before .load-roots .ensures in
+    worked-out s (r .0) (a .w) (r .1) (r .2) _ _ _ given (lower b) _ (c .before .before .before .before .before .before .before .before .before .before .before .before .read-header .ensures) _ _ (c .before .before .before .before .before .before .find-factors .ensures)
 
 pub work-with-spec : {M : Type 1} → statement M
 work-with-spec =
     tie.close
     (tie.spec
-    shared-slice-read-n
-    cast-n
-    shared-slice-read-polynomial-from
-    cast-polynomial-from
-    polynomial-from-requires
-    shared-slice-read-end
-    cast-end
-    mul-end
-    add-end
-    sub-load-column
-    part-load-column-start
-    part-load-column-end
-    load-column-requires
-    sub-load-column-2
-    part-load-column-start-2
-    part-load-column-end-2
-    load-column-requires-2
-    mul-copy
-    sub-copy
-    part-copy-start
-    part-copy-end
+    load-roots-requires
+    lower-part-requires
     copy-requires
-    shared-slice-read-find-factors
+    read-header-requires
     find-factors-requires
     same-length
     same-length-2

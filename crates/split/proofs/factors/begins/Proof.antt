@@ -7,8 +7,8 @@ use borrow.Author.Count.{below-more}
 use lib.ListN.{length}
 use Rattle.numbers.specs.Words.{word}
 use Rattle.numbers.proofs.TestsLaws.{decides-yes, decides-no}
-use Rattle.columns.proofs.ColumnLaws.{row-before}
-use Rattle.rows.proofs.RowsLaws.{rows-small}
+use Rattle.numbers.proofs.RefusalsLaws.{few-words}
+use Rattle.rows.proofs.RowsLaws.{row-fits}
 use borrow.Author.Needs.{needs}
 use Rattle.split.proofs.factors.begins.Statement.{statement}
 use Rattle.split.proofs.factors.begins.Tie as tie
@@ -26,13 +26,13 @@ add-loop : tie.Need-add-loop Inv-loop μ-loop
 add-loop c = search needs
 
 mul-if1 : tie.Need-mul-if1 Inv-loop μ-loop
-mul-if1 c = let a = c .before .before .args in omega (arith, rows-small (c .before .loop .j) (a .n) (omega arith) (omega arith))
+mul-if1 c = let a = c .before .before .args in omega (arith, few-words (c .before .loop .j) (a .n) (omega arith) (omega arith))
 
 mul-if1-2 : tie.Need-mul-if1-2 Inv-loop μ-loop
-mul-if1-2 c = let a = c .before .before .args in omega (arith, rows-small (c .before .loop .j) (a .n) (omega arith) (omega arith))
+mul-if1-2 c = let a = c .before .before .args in omega (arith, few-words (c .before .loop .j) (a .n) (omega arith) (omega arith))
 
 shared-slice-read-if1 : tie.Need-shared-slice-read-if1 Inv-loop μ-loop
-shared-slice-read-if1 c = let a = c .before .before .before .args in omega (arith, row-before (c .before .before .loop .j) (length (a .line .now) - 1) (a .n) (omega arith))
+shared-slice-read-if1 c = let a = c .before .before .before .args in omega (arith, row-fits (c .before .before .loop .j) (length (a .line .now) - 1) (a .n) (omega arith))
 
 mul-if1-3 : tie.Need-mul-if1-3 Inv-loop μ-loop
 mul-if1-3 c = search needs
@@ -50,7 +50,9 @@ loop-less : tie.Need-loop-less Inv-loop μ-loop
 loop-less c = search needs
 
 loop-again : tie.Need-loop-again Inv-loop μ-loop
-loop-again c = (omega arith, below-more (λ l. word (c .before .before .before .before .before .args .rows .now) (l * c .before .before .before .before .before .args .n) ≡ word (c .before .before .before .before .before .args .line .now) l) _ (c .before .before .before .before .loop .inv .1) (c .if1 .left))
+loop-again c =
+    let a = c .before .before .before .before .before .args in
+    (omega arith, below-more (λ l. word (a .rows .now) (l * a .n) ≡ word (a .line .now) l) _ (c .before .before .before .before .loop .inv .1) (c .if1 .left))
 
 returns-2 : tie.Need-returns-2 Inv-loop μ-loop
 returns-2 c = decides-yes (λ i l. c .before .loop .inv .1 i (omega arith))

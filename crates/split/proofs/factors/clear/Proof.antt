@@ -5,9 +5,10 @@ use Prim.Native.Nat.{_≤_, _-_, _+_, _*_}
 use native.Mathlib.Omega.{arith}
 use borrow.Author.Needs.{needs}
 use Rattle.split.proofs.FactorsToLaws.{lent-row, cleared-none, cleared-step}
-use Rattle.split.specs.Table.{Cleared}
+use Rattle.split.specs.Found.{Cleared}
 use native.Mathlib.Nat.{add-sub-cancel-left}
-use Rattle.rows.proofs.RowsLaws.{row-fits, rows-small}
+use Rattle.numbers.proofs.RefusalsLaws.{few-words}
+use Rattle.rows.proofs.RowsLaws.{row-fits}
 use Rattle.split.proofs.factors.clear.Statement.{statement}
 use Rattle.split.proofs.factors.clear.Tie as tie
 
@@ -21,22 +22,34 @@ loop-holds : tie.Need-loop-holds Inv-loop μ-loop
 loop-holds c = (omega arith, cleared-none _ _ _)
 
 mul-a : tie.Need-mul-a Inv-loop μ-loop
-mul-a c = let z = row-fits (c .before .loop .j) (c .before .before .before .args .d) (c .before .before .before .args .n) (omega arith) in let y = rows-small (c .before .before .before .args .d) (c .before .before .before .args .n) (c .before .before .before .pre .2) (c .before .before .before .pre .1) in let x = c .before .loop .inv .1 .long in omega arith
+mul-a c =
+    let a = c .before .before .before .args in
+    let z = row-fits (c .before .loop .j) (a .d) (a .n) (omega arith) in let y = few-words (a .d) (a .n) (c .before .before .before .pre .2) (c .before .before .before .pre .1) in let x = c .before .loop .inv .1 .long in omega arith
 
 add-e : tie.Need-add-e Inv-loop μ-loop
-add-e c = let z = row-fits (c .before .loop .j) (c .before .before .before .args .d) (c .before .before .before .args .n) (omega arith) in let y = rows-small (c .before .before .before .args .d) (c .before .before .before .args .n) (c .before .before .before .pre .2) (c .before .before .before .pre .1) in let x = c .before .loop .inv .1 .long in omega arith
+add-e c =
+    let a = c .before .before .before .args in
+    let z = row-fits (c .before .loop .j) (a .d) (a .n) (omega arith) in let y = few-words (a .d) (a .n) (c .before .before .before .pre .2) (c .before .before .before .pre .1) in let x = c .before .loop .inv .1 .long in omega arith
 
 mul-clear-row : tie.Need-mul-clear-row Inv-loop μ-loop
-mul-clear-row c = let z = row-fits (c .before .loop .j) (c .before .before .before .args .d) (c .before .before .before .args .n) (omega arith) in let y = rows-small (c .before .before .before .args .d) (c .before .before .before .args .n) (c .before .before .before .pre .2) (c .before .before .before .pre .1) in let x = c .before .loop .inv .1 .long in omega arith
+mul-clear-row c =
+    let a = c .before .before .before .args in
+    let z = row-fits (c .before .loop .j) (a .d) (a .n) (omega arith) in let y = few-words (a .d) (a .n) (c .before .before .before .pre .2) (c .before .before .before .pre .1) in let x = c .before .loop .inv .1 .long in omega arith
 
 sub-clear-row : tie.Need-sub-clear-row Inv-loop μ-loop
-sub-clear-row c = let z = row-fits (c .before .loop .j) (c .before .before .before .args .d) (c .before .before .before .args .n) (omega arith) in let y = rows-small (c .before .before .before .args .d) (c .before .before .before .args .n) (c .before .before .before .pre .2) (c .before .before .before .pre .1) in let x = c .before .loop .inv .1 .long in omega arith
+sub-clear-row c =
+    let a = c .before .before .before .args in
+    let z = row-fits (c .before .loop .j) (a .d) (a .n) (omega arith) in let y = few-words (a .d) (a .n) (c .before .before .before .pre .2) (c .before .before .before .pre .1) in let x = c .before .loop .inv .1 .long in omega arith
 
 part-clear-row-start : tie.Need-part-clear-row-start Inv-loop μ-loop
-part-clear-row-start c = let z = row-fits (c .before .loop .j) (c .before .before .before .args .d) (c .before .before .before .args .n) (omega arith) in let y = rows-small (c .before .before .before .args .d) (c .before .before .before .args .n) (c .before .before .before .pre .2) (c .before .before .before .pre .1) in let x = c .before .loop .inv .1 .long in omega arith
+part-clear-row-start c =
+    let a = c .before .before .before .args in
+    let z = row-fits (c .before .loop .j) (a .d) (a .n) (omega arith) in let y = few-words (a .d) (a .n) (c .before .before .before .pre .2) (c .before .before .before .pre .1) in let x = c .before .loop .inv .1 .long in omega arith
 
 part-clear-row-end : tie.Need-part-clear-row-end Inv-loop μ-loop
-part-clear-row-end c = let z = row-fits (c .before .loop .j) (c .before .before .before .args .d) (c .before .before .before .args .n) (omega arith) in let y = rows-small (c .before .before .before .args .d) (c .before .before .before .args .n) (c .before .before .before .pre .2) (c .before .before .before .pre .1) in let x = c .before .loop .inv .1 .long in omega arith
+part-clear-row-end c =
+    let a = c .before .before .before .args in
+    let z = row-fits (c .before .loop .j) (a .d) (a .n) (omega arith) in let y = few-words (a .d) (a .n) (c .before .before .before .pre .2) (c .before .before .before .pre .1) in let x = c .before .loop .inv .1 .long in omega arith
 
 clear-row-requires : tie.Need-clear-row-requires Inv-loop μ-loop
 clear-row-requires c κs =

@@ -53,7 +53,9 @@ cast-m-2 : tie.Need-cast-m-2 Inv-loop μ-loop
 cast-m-2 c = omega (arith, c .shared-slice-known3 .given (c .before .before .before .before .loop .i))
 
 add-m : tie.Need-add-m Inv-loop μ-loop
-add-m c = let r = c .before .before .before .before .before .before .pre .1 in let z = c .before .before .before .before .before .before .pre .2 (c .before .before .before .before .loop .i) (omega arith) in omega arith
+add-m c =
+    let h = c .before .before .before .before .before .before .pre in
+    let r = h .1 in let z = h .2 (c .before .before .before .before .loop .i) (omega arith) in omega arith
 
 add-i : tie.Need-add-i Inv-loop μ-loop
 add-i c = search needs

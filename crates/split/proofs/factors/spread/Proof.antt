@@ -10,7 +10,7 @@ use Rattle.split.proofs.FactorsToLaws.{spread-step, spread-none, spread
 use Rattle.algebra.specs.Sums.{sumTo, sumTo-zero, sumTo-suc}
 use native.Mathlib.Numerals.{add-one}
 use native.Mathlib.Nat.{add-sub-cancel-left}
-use Rattle.split.specs.Table.{Spread}
+use Rattle.split.specs.Found.{Spread}
 use Rattle.split.proofs.factors.spread.Statement.{statement}
 use Rattle.split.proofs.factors.spread.Tie as tie
 
@@ -20,8 +20,14 @@ Inv-loop roots powers c₀ a₀ i₀ c a i = (i ≤ length powers) × (a ≡ sum
 abbrev μ-loop : tie.MeasureT-loop
 μ-loop roots powers c₀ a₀ i₀ c a i = length powers - i
 
+-- where the function begins, seen from later places
+abbrev start : (b : tie.After-shared-slice-known3 Inv-loop μ-loop) → tie.Start Inv-loop μ-loop
+start b = b .before .before .before .before .before .before
+
 loop-holds : tie.Need-loop-holds Inv-loop μ-loop
-loop-holds c = (omega arith, sym (sumTo-zero _), refl, spread-none (c .before .before .before .args .roots .now) (c .before .before .before .args .powers .now) (c .before .before .before .args .c .now))
+loop-holds c =
+    let a = c .before .before .before .args in
+    (omega arith, sym (sumTo-zero _), refl, spread-none (a .roots .now) (a .powers .now) (a .c .now))
 
 mul-e : tie.Need-mul-e Inv-loop μ-loop
 mul-e c = search needs
@@ -30,10 +36,14 @@ shared-slice-read-e : tie.Need-shared-slice-read-e Inv-loop μ-loop
 shared-slice-read-e c = search needs
 
 cast-e : tie.Need-cast-e Inv-loop μ-loop
-cast-e c = let z = spread-room (c .before .before .before .before .before .before .args .powers .now) (c .before .before .loop .i) (c .before .before .loop .a) (omega arith) (c .before .before .loop .inv .1) in omega arith
+cast-e c =
+    let l = c .before .before .loop in
+    let z = spread-room ((start c .args) .powers .now) (l .i) (l .a) (omega arith) (l .inv .1) in omega arith
 
 add-e : tie.Need-add-e Inv-loop μ-loop
-add-e c = let z = spread-room (c .before .before .before .before .before .before .args .powers .now) (c .before .before .loop .i) (c .before .before .loop .a) (omega arith) (c .before .before .loop .inv .1) in omega arith
+add-e c =
+    let l = c .before .before .loop in
+    let z = spread-room ((start c .args) .powers .now) (l .i) (l .a) (omega arith) (l .inv .1) in omega arith
 
 mul-repeat : tie.Need-mul-repeat Inv-loop μ-loop
 mul-repeat c = search needs
@@ -42,7 +52,9 @@ shared-slice-read-repeat : tie.Need-shared-slice-read-repeat Inv-loop μ-loop
 shared-slice-read-repeat c = search needs
 
 mul-repeat-2 : tie.Need-mul-repeat-2 Inv-loop μ-loop
-mul-repeat-2 c = let z = spread-room (c .before .before .before .before .before .before .before .args .powers .now) (c .before .before .before .loop .i) (c .before .before .before .loop .a) (omega arith) (c .before .before .before .loop .inv .1) in omega arith
+mul-repeat-2 c =
+    let l = c .before .before .before .loop in
+    let z = spread-room ((start (c .before) .args) .powers .now) (l .i) (l .a) (omega arith) (l .inv .1) in omega arith
 
 sub-repeat : tie.Need-sub-repeat Inv-loop μ-loop
 sub-repeat c = omega arith
@@ -51,7 +63,9 @@ part-repeat-start : tie.Need-part-repeat-start Inv-loop μ-loop
 part-repeat-start c = omega arith
 
 part-repeat-end : tie.Need-part-repeat-end Inv-loop μ-loop
-part-repeat-end c = let z = spread-room (c .before .before .before .before .before .before .before .args .powers .now) (c .before .before .before .loop .i) (c .before .before .before .loop .a) (omega arith) (c .before .before .before .loop .inv .1) in omega arith
+part-repeat-end c =
+    let l = c .before .before .before .loop in
+    let z = spread-room ((start (c .before) .args) .powers .now) (l .i) (l .a) (omega arith) (l .inv .1) in omega arith
 
 repeat-requires : tie.Need-repeat-requires Inv-loop μ-loop
 repeat-requires c κs = search needs
@@ -64,8 +78,8 @@ loop-less c = search needs
 
 loop-again : tie.Need-loop-again Inv-loop μ-loop
 loop-again c =
-    let a = c .before .before .before .before .before .before .before .before .before .before .before .args in
-    let r = c .before .before .before .before .before .before .before .before .before .before .before .pre in
+    let a = start (c .before .before .before .before .before) .args in
+    let r = start (c .before .before .before .before .before) .pre in
     let l = c .before .before .before .before .before .before .before .loop in
     let x = spread-step (a .roots .now) (a .powers .now) (l .c) _ (l .i) (l .a) _ (l .inv .1) (omega arith) (l .inv .2 ∙ r .2) (add-sub-cancel-left (l .a) (word (a .powers .now) (l .i))) (c .before .before .repeat .ensures) (l .inv .3) in
     (omega arith, ap (λ v. v + word (a .powers .now) (l .i)) (l .inv .1) ∙ sym (sumTo-suc (l .i) (word (a .powers .now))) ∙ ap (λ n. sumTo n (word (a .powers .now))) (sym (add-one (l .i))), x .0 ∙ l .inv .2, x .1)

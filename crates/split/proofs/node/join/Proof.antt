@@ -3,7 +3,7 @@
 use mathlib.Core.Path.{sym}
 use native.Mathlib.Omega.{arith}
 use borrow.Author.Needs.{needs}
-use Rattle.split.proofs.NodeLaws.{joined}
+use Rattle.solution.proofs.NodeLaws.{joined}
 use lib.Seq.{length-take-le}
 use Rattle.split.proofs.node.join.Statement.{statement}
 use Rattle.split.proofs.node.join.Tie as tie
@@ -12,7 +12,9 @@ slice-relend-prefix-load-column : tie.Need-slice-relend-prefix-load-column
 slice-relend-prefix-load-column c = search needs
 
 slice-aggregate-load-column : tie.Need-slice-aggregate-load-column
-slice-aggregate-load-column c = sym (length-take-le (c .before .before .before .before .args .m) (c .before .before .before .before .args .e .now) (omega arith))
+slice-aggregate-load-column c =
+    let a = c .before .before .before .before .args in
+    sym (length-take-le (a .m) (a .e .now) (omega arith))
 
 load-column-requires : tie.Need-load-column-requires
 load-column-requires c κs =

@@ -11,10 +11,10 @@ tiles-pay-requires c κs = search needs
 split-tiled-requires : tie.Need-split-tiled-requires
 split-tiled-requires c κs =
     let r = c .before .before .before .before .before .before .before .before .before .before .before .pre in
-    let room = r .0 .room in
-    let low = r .0 .low in
+    let room = r .0 .bases .room in
+    let low = r .0 .bases .low in
     let h = c .before .before .before .before .tiles-pay .ensures (c .before .before .before .if1 .taken) in
-    (r .0, r .1, r .2, r .3, r .4, r .5, r .6, r .7, r .8, r .9, r .10, r .11, r .12, omega arith, omega arith)
+    (r .0, r .1, r .2, omega arith, omega arith)
 
 split-columns-requires : tie.Need-split-columns-requires
 split-columns-requires c κs = search needs

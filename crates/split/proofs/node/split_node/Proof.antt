@@ -5,14 +5,18 @@ use Prim.Native.Nat.{_-_, _+_, _*_}
 use native.Mathlib.Omega.{arith}
 use lib.ListN.{length}
 use borrow.Author.Needs.{needs}
-use Rattle.split.proofs.NodeLaws.{square-small}
+use Rattle.solution.proofs.NodeLaws.{square-small}
 use Rattle.rows.proofs.RowsLaws.{zeros}
 use lib.Seq.{length-take-le}
 use Rattle.split.proofs.node.split_node.Statement.{statement}
 use Rattle.split.proofs.node.split_node.Tie as tie
 
+-- where the function begins, seen from later places
+abbrev start : (b : tie.After-row) → tie.Start
+start b = b .before .before .before .before .before .before
+
 mul-cells : tie.Need-mul-cells
-mul-cells c = let z = square-small (length (c .before .before .args .c .now)) (c .before .before .pre .4) in omega arith
+mul-cells c = let z = square-small (length (c .before .before .args .c .now)) (c .before .before .pre .0 .room) in omega arith
 
 add-p0 : tie.Need-add-p0
 add-p0 c = search needs
@@ -54,12 +58,13 @@ slice-aggregate-split-with-4 : tie.Need-slice-aggregate-split-with-4
 slice-aggregate-split-with-4 c = sym (length-take-le _ zeros (omega arith))
 
 array-borrow-prefix-table : tie.Need-array-borrow-prefix-table
-array-borrow-prefix-table c = let z = square-small (length (c .before .before .before .before .before .before .args .c .now)) (c .before .before .before .before .before .before .pre .4) in omega arith
+array-borrow-prefix-table c = let z = square-small (length ((start c .args) .c .now)) ((start c .pre) .0 .room) in omega arith
 
 slice-aggregate-split-with-5 : tie.Need-slice-aggregate-split-with-5
 slice-aggregate-split-with-5 c =
-    let z = square-small (length (c .before .before .before .before .before .before .before .args .c .now)) (c .before .before .before .before .before .before .before .pre .4) in
-    sym (length-take-le (length (c .before .before .before .before .before .before .before .args .c .now) * length (c .before .before .before .before .before .before .before .args .c .now)) _ (omega arith))
+    let a = start (c .before) .args in
+    let z = square-small (length (a .c .now)) ((start (c .before) .pre) .0 .room) in
+    sym (length-take-le (length (a .c .now) * length (a .c .now)) _ (omega arith))
 
 array-borrow-prefix-e : tie.Need-array-borrow-prefix-e
 array-borrow-prefix-e c = search needs
@@ -69,28 +74,22 @@ slice-aggregate-split-with-6 c = sym (length-take-le _ zeros (omega arith))
 
 split-with-requires : tie.Need-split-with-requires
 split-with-requires c κs =
-    let a = c .before .before .before .before .before .before .before .before .before .args in
-    let r = c .before .before .before .before .before .before .before .before .before .pre in
-    let z = square-small (length (a .c .now)) (r .4) in
+    let a = start (c .before .before .before) .args in
+    let r = start (c .before .before .before) .pre in
+    let z = square-small (length (a .c .now)) (r .0 .room) in
     let n = length (a .c .now) in (
       r .0,
-      r .1,
-      r .2,
-      r .3,
-      r .4,
-      r .5,
       length-take-le (a .m + 1) zeros (omega arith),
       length-take-le (n - a .m + 1) zeros (omega arith),
       length-take-le (n - a .m + 1) zeros (omega arith),
       length-take-le n zeros (omega arith),
       length-take-le (n * n) _ (omega arith),
-      r .6,
       length-take-le n zeros (omega arith),
-      r .7,
-      r .8,
-      r .9,
-      r .10,
-      r .11,
+      r .1,
+      r .2,
+      r .3,
+      r .4,
+      r .5,
     )
 
 same-length : tie.Need-same-length

@@ -1,0 +1,96 @@
+-- For every input extend's contract allows exactly one answer and one content of the slice.
+--   extend-total   so
+--   extend-able    what an accepted extend was lent
+--   extend-spoiled, extend-outside, extend-beyond, extend-behind, extend-reached   extend's verdict, case by case
+-- Assumes nothing.
+use Prim.Native.Nat.{ℕ, _≤_, _<_}
+use native.Mathlib.Omega.{arith}
+use mathlib.Core.Path.{_≡_, refl, sym, _∙_, ap, ap₂, subst}
+use mathlib.Core.Logic.{_⊎_, inl, inr}
+use mathlib.Core.Bool.{Bool, true, false, not, _||_}
+use mathlib.Core.List.{List, [], _∷_}
+use borrow.Author.Tests.{ltb-false, lt-ltb, le-ltb, not-false}
+use lib.Dec.{ltb}
+use Rattle.numbers.specs.Words.{outside}
+use Rattle.numbers.specs.Refusals.{beyondCheck, behindCheck, judge, refusal, result, Leaves}
+use Rattle.numbers.specs.declared.refusal.Verdict.{Verdict}
+use Rattle.numbers.specs.declared.refusal.Verdict.the-variants.{Pass, Refuse}
+use Rattle.numbers.proofs.RefusalsLaws.{One, none-judged, inside, pass-check, take-check, skip-check}
+use Rattle.layout.specs.Layout.{terms, width, reach}
+use Rattle.sheet.specs.Sheet.{Sound, soundTest, soundCheck}
+use Rattle.sheet.proofs.SoundTestLaws.{sound-test}
+use Rattle.extend.specs.Extend.{extendChecks, extendVerdict, ExtendDone, Extended}
+use Rattle.extend.proofs.ExtendingLaws.{extended, extend-done, extend-only}
+
+module _ (old : List ℕ) (w : ℕ) where
+  pub record Able : Type 0 where
+    pub sound : Sound old
+    pub low : terms old ≤ w
+    pub high : w ≤ width old
+
+  pub extend-able : extendVerdict old w ≡ Pass → Able
+  unfolding extendVerdict
+  extend-able e =
+      let a = pass-check (soundCheck old) _ e in
+      let b = pass-check (beyondCheck (reach old) w) _ (a .1) in
+      let c = pass-check (behindCheck (terms old) w) _ (b .1) in
+      record { sound = sound-test old .0 (not-false (soundTest old) (a .0)); low = ltb-false w (terms old) (c .0); high = inside 1 (reach old) w (b .0) .1 }
+
+  pub extend-total : One (Extended old w)
+  extend-total = go (extendVerdict old w) refl
+    where
+      go : (v : Verdict) → extendVerdict old w ≡ v → One (Extended old w)
+      go Pass e =
+          let h = extend-able e in
+          let new′ : List ℕ = extended old (h .sound) w (h .low) (h .high) in
+          let d : ExtendDone old w new′ = extend-done old (h .sound) w (h .low) (h .high) in
+          record {
+            answer = result (extendVerdict old w) w;
+            left = new′;
+            there = record { answers = refl; leaves = subst (λ v. Leaves v (ExtendDone old w new′) old new′) (sym e) d };
+            only = λ a new x. (x .answers, extend-only old (h .sound) w new new′ (subst (λ v. Leaves v (ExtendDone old w new) old new) e (x .leaves)) d);
+          }
+      go (Refuse r) e = record {
+        answer = result (extendVerdict old w) w;
+        left = old;
+        there = record { answers = refl; leaves = subst (λ v. Leaves v (ExtendDone old w old) old old) (sym e) refl };
+        only = λ a new x. (x .answers, subst (λ v. Leaves v (ExtendDone old w new) old new) e (x .leaves));
+      }
+
+  -- extend's verdict, case by case
+  pub extend-spoiled : ¬ Sound old → extendVerdict old w ≡ Refuse (refusal 13 0)
+  unfolding extendVerdict
+  extend-spoiled h = go (soundTest old) refl
+    where
+      go : (b : Bool) → soundTest old ≡ b → judge (extendChecks old w) ≡ Refuse (refusal 13 0)
+      go true e = absurd (h (sound-test old .0 e))
+      go false e = take-check (soundCheck old) _ (ap not e)
+
+  module _ (h : Sound old) where
+    past-sound : extendVerdict old w ≡ judge (beyondCheck (reach old) w ∷ behindCheck (terms old) w ∷ [])
+    unfolding extendVerdict
+    past-sound = skip-check (soundCheck old) _ (ap not (sound-test old .1 h))
+
+    pub extend-outside : outside 1 (reach old) w ≡ true → extendVerdict old w ≡ Refuse (refusal 14 0)
+    extend-outside e = past-sound ∙ take-check (beyondCheck (reach old) w) _ e
+
+    pub extend-beyond : (w ≡ 0) ⊎ (width old < w) → extendVerdict old w ≡ Refuse (refusal 14 0)
+    extend-beyond u = extend-outside (go u)
+      where
+        or-true : (b : Bool) → (b || true) ≡ true
+        or-true true = refl
+        or-true false = refl
+
+        go : (w ≡ 0) ⊎ (width old < w) → outside 1 (width old) w ≡ true
+        go (inl e) = rw (lt-ltb w 1 (omega arith))
+        go (inr l) = rw (lt-ltb (width old) w l) (or-true (ltb w 1))
+
+    module _ (low : 1 ≤ w) (high : w ≤ width old) where
+      past-range : extendVerdict old w ≡ judge (behindCheck (terms old) w ∷ [])
+      past-range = past-sound ∙ skip-check (beyondCheck (reach old) w) _ (ap₂ _||_ (le-ltb w 1 low) (le-ltb (width old) w high))
+
+      pub extend-behind : w < terms old → extendVerdict old w ≡ Refuse (refusal 15 0)
+      extend-behind l = past-range ∙ take-check (behindCheck (terms old) w) [] (lt-ltb w (terms old) l)
+
+      pub extend-reached : terms old ≤ w → extendVerdict old w ≡ Pass
+      extend-reached l = past-range ∙ skip-check (behindCheck (terms old) w) [] (le-ltb w (terms old) l) ∙ none-judged

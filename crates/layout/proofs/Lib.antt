@@ -1,0 +1,3 @@
+pub mod PlacesLaws
+pub mod RegionsLaws
+pub mod WritingLaws

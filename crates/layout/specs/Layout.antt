@@ -1,0 +1,106 @@
+-- Where the words of a sheet stand: the one place that knows. Roots and factors are counted from 0.
+--   modulus, degree, width, terms, count           header words 0 to 4: p, D, N, k, r
+--   reach                                          the most terms that there can be
+--   rootsOffset, polynomialOffset, factorsOffset, restOffset, endOffset   header words 5 to 9
+--   rootsFrom, polynomialFrom, factorsFrom, total  what these have to be, from D, N and r; T is the total
+--   headerOf p D N k r                             the header of a sheet, word by word
+--   root, power, polynomial, factorRows, factor, end   readers by name
+--   factorFrom, factorSize, factorPart             where the rows of a factor stand, how many words they have, and these words
+-- Assumes nothing.
+use Prim.Native.Nat.{ℕ, zero, suc, _+_, _*_}
+use mathlib.Core.List.{List, [], _∷_}
+use Rattle.algebra.specs.Sums.{sumTo}
+use Rattle.numbers.specs.Words.{word, part}
+
+-- row after row, N words each, from word o on
+abbrev pub rowsAt : List ℕ → ℕ → ℕ → ℕ → ℕ → ℕ
+rowsAt s o N j t = word s (o + j * N + t)
+
+-- header words
+abbrev pub modulus : List ℕ → ℕ
+modulus s = word s 0
+
+abbrev pub degree : List ℕ → ℕ
+degree s = word s 1
+
+abbrev pub width : List ℕ → ℕ
+width s = word s 2
+
+abbrev pub termsAt : ℕ
+termsAt = 3
+
+abbrev pub terms : List ℕ → ℕ
+terms s = word s termsAt
+
+abbrev pub count : List ℕ → ℕ
+count s = word s 4
+
+-- the most terms that there can be
+abbrev pub reach : List ℕ → ℕ
+reach s = width s
+
+abbrev pub rootsOffset : List ℕ → ℕ
+rootsOffset s = word s 5
+
+abbrev pub polynomialOffset : List ℕ → ℕ
+polynomialOffset s = word s 6
+
+abbrev pub factorsOffset : List ℕ → ℕ
+factorsOffset s = word s 7
+
+abbrev pub restOffset : List ℕ → ℕ
+restOffset s = word s 8
+
+abbrev pub endOffset : List ℕ → ℕ
+endOffset s = word s 9
+
+-- the roots follow the header, two words each: root, then power
+abbrev pub rootsFrom : ℕ
+rootsFrom = 10
+
+abbrev pub polynomialFrom : ℕ → ℕ
+polynomialFrom r = rootsFrom + 2 * r
+
+abbrev pub factorsFrom : (D N r : ℕ) → ℕ
+factorsFrom D N r = polynomialFrom r + (D + 1) * N
+
+-- the factors have D rows: T is where they end
+abbrev pub total : (D N r : ℕ) → ℕ
+total D N r = polynomialFrom r + (2 * D + 1) * N
+
+abbrev pub headerOf : (p D N k r : ℕ) → List ℕ
+headerOf p D N k r = p ∷ D ∷ N ∷ k ∷ r ∷ rootsFrom ∷ polynomialFrom r ∷ factorsFrom D N r ∷ total D N r ∷ total D N r ∷ []
+
+-- readers
+abbrev pub root : List ℕ → ℕ → ℕ
+root s i = word s (rootsFrom + 2 * i)
+
+abbrev pub power : List ℕ → ℕ → ℕ
+power s i = word s (rootsFrom + 2 * i + 1)
+
+-- root i, then power i: row i of the roots
+abbrev pub rootTable : (roots powers : List ℕ) → ℕ → ℕ → ℕ
+rootTable roots powers i zero = word roots i
+rootTable roots powers i (suc t) = word powers i
+
+abbrev pub end : List ℕ → ℕ
+end s = total (degree s) (width s) (count s)
+
+abbrev pub polynomial : List ℕ → ℕ → ℕ → ℕ
+polynomial s = rowsAt s (polynomialFrom (count s)) (width s)
+
+-- all factors' rows, and those of factor i
+abbrev pub factorRows : List ℕ → ℕ → ℕ → ℕ
+factorRows s = rowsAt s (factorsFrom (degree s) (width s) (count s)) (width s)
+
+abbrev pub factor : List ℕ → ℕ → ℕ → ℕ → ℕ
+factor s i j t = factorRows s (sumTo i (power s) + j) t
+
+abbrev pub factorFrom : List ℕ → ℕ → ℕ
+factorFrom s i = factorsFrom (degree s) (width s) (count s) + sumTo i (power s) * width s
+
+abbrev pub factorSize : List ℕ → ℕ → ℕ
+factorSize s i = power s i * width s
+
+abbrev pub factorPart : List ℕ → ℕ → List ℕ
+factorPart s i = part s (factorFrom s i) (factorSize s i)

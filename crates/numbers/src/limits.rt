@@ -1,0 +1,10 @@
+// The limits of the specification, by the names that `specs/Limits` gives them.
+pub const LARGEST_MODULUS: u32 = 65535;
+
+pub const LARGEST_DEGREE: u32 = 32;
+
+pub const MOST_ROWS: usize = 33; // a polynomial of the largest degree bound
+
+pub const MOST_ROOTS: usize = 32; // one for each degree
+
+pub const LARGEST_WIDTH: u32 = 256; // the largest N

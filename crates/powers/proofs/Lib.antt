@@ -1,0 +1,3 @@
+pub mod PowersLaws
+pub mod FindingLaws
+pub mod LineLaws

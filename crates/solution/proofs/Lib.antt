@@ -1,0 +1,4 @@
+pub mod DigitsLaws
+pub mod TableLaws
+pub mod StepLaws
+pub mod NodeLaws

@@ -1,0 +1,110 @@
+-- Laws of a sheet's text: where its rows stand, that they have room, and the loops over rows and factors.
+-- Assumes nothing.
+use Prim.Native.Nat.{ℕ, suc, _+_, _-_, _*_, _≤_, _<_}
+use native.Mathlib.Nat.{mul-le-mul, suc-mul, add-mul}
+use native.Mathlib.Numerals.{add-one}
+use native.Mathlib.Omega.{arith}
+use mathlib.Core.Path.{_≡_, refl, sym, ap, ap₂, subst, _∙_, fun-ext}
+use mathlib.Core.List.{List, _++_}
+use lib.ListN.{length, take, drop, length-drop}
+use lib.Seq.{ext-getD, getD-take, getD-drop, length-take-le}
+use Rattle.algebra.specs.Sums.{sumTo, sumTo-suc}
+use Rattle.numbers.specs.Words.{word, tabulate}
+use Rattle.numbers.proofs.WordsLaws.{length-tabulate, word-tabulate}
+use Rattle.layout.proofs.PlacesLaws.{upto-power}
+use Rattle.layout.specs.Layout.{rowsAt, modulus, degree, width, terms, count, root, power, factor, factorsFrom, factorFrom}
+use Rattle.layout.specs.Places.{HeaderIs}
+use Rattle.layout.specs.declared.Header.{Header}
+use Rattle.text.specs.Limits.{mostDegree, mostWidth, headRoom, rootRoom, rowRoom, factorsRoom, textRoom}
+use Rattle.text.specs.Text.{Puts, Listable, joinTo, rowLine, rowLines, rootLine, headLine, factorText, listingText}
+use Rattle.text.proofs.TextLaws.{puts-none, puts-then, puts-as, join-next}
+
+-- a row where it stands
+pub row-is : (s : List ℕ) (start n : ℕ) → start + n ≤ length s → take (start + n - start) (drop start s) ≡ tabulate n (λ t. word s (start + t))
+row-is s start n h =
+    let l : length (take n (drop start s)) ≡ n = length-take-le n (drop start s) (simp length-drop (omega arith)) in
+    ap (λ (k : ℕ). take k (drop start s)) (let z : start + n - start ≡ n = omega arith in z)
+    ∙ ext-getD 0 _ _ (l ∙ sym (length-tabulate n _))
+    (λ i g. let g' : i < n = omega arith in getD-take n (drop start s) i 0 g' ∙ getD-drop start s i 0 ∙ sym (word-tabulate n (λ t. word s (start + t)) i g'))
+
+pub row-long : (s : List ℕ) (start n : ℕ) → start + n ≤ length s → length (take (start + n - start) (drop start s)) ≡ n
+row-long s start n h = ap length (row-is s start n h) ∙ length-tabulate n (λ t. word s (start + t))
+
+-- a loop that puts rows: at its start, and one row further
+pub rows-start : (n : ℕ) (rows : ℕ → ℕ → ℕ) (at : ℕ) (old : List ℕ) → at ≤ length old → Puts (rowRoom * 0) (rowLines n 0 rows) at old at old
+unfolding rowLines joinTo
+rows-start n rows at old h = puts-none at old h
+
+pub rows-on : (s : List ℕ) (from n j at : ℕ) {place next : ℕ} {old out new row : List ℕ} → n ≤ mostWidth → from + j * n + n ≤ length s
+    → row ≡ take (from + j * n + n - (from + j * n)) (drop (from + j * n) s)
+    → Puts (rowRoom * j) (rowLines n j (rowsAt s from n)) at old place out → Puts (15 + 11 * length row) (rowLine j row) place out next new
+    → Puts (rowRoom * (j + 1)) (rowLines n (j + 1) (rowsAt s from n)) at old next new
+unfolding rowLines
+rows-on s from n j at {row = row} h l q f g =
+    let e : row ≡ tabulate n (λ t. word s (from + j * n + t)) = q ∙ row-is s (from + j * n) n l in
+    puts-as (rowRoom * (j + 1)) (rowLines n (j + 1) (rowsAt s from n)) (puts-then f g)
+    (ap (λ (r : List ℕ). rowLines n j (rowsAt s from n) ++ rowLine j r) e ∙ sym (join-next j (λ i. rowLine i (tabulate n (rowsAt s from n i)))))
+    (omega (arith, ap length e, length-tabulate n (λ t. word s (from + j * n + t))))
+
+pub rows-end : (s : List ℕ) (from n m j at : ℕ) {place : ℕ} {old out : List ℕ} → Puts (rowRoom * j) (rowLines n j (rowsAt s from n)) at old place out → j ≡ m
+    → Puts (rowRoom * m) (rowLines n m (rowsAt s from n)) at old place out
+rows-end s from n m j at {place} {old} {out} f e = subst (λ (k : ℕ). Puts (rowRoom * k) (rowLines n k (rowsAt s from n)) at old place out) e f
+
+-- a row stands within its rows
+pub row-fits : (from m n j l : ℕ) → from + m * n ≤ l → j < m → from + j * n + n ≤ l
+row-fits from m n j l h g =
+    let z : suc j * n ≤ m * n = mul-le-mul {n₂ = m} {m₂ = n} g (omega arith) in
+    omega (arith, suc-mul j n)
+
+-- a sheet within a job's limits
+module _ (s : List ℕ) (h : Listable s) where
+  pub power-few : (i : ℕ) → i < count s → power s i ≤ mostDegree
+  power-few i l = omega (arith, upto-power s (h .placed) i l, h .degree-high)
+
+  -- the rows of factor i, by name
+  pub factor-rows : (i : ℕ) → (j t : ℕ) → rowsAt s (factorFrom s i) (width s) j t ≡ factor s i j t
+  factor-rows i j t =
+      let a = add-mul (sumTo i (power s)) j (width s) in
+      ap (word s) (let z : factorsFrom (degree s) (width s) (count s) + sumTo i (power s) * width s + j * width s + t
+      ≡ factorsFrom (degree s) (width s) (count s) + (sumTo i (power s) + j) * width s + t = omega arith in z)
+
+  -- its first line and its rows, by the numbers that were read
+  pub factor-put : (i at from N c m : ℕ) {mid next : ℕ} {old half new : List ℕ} → from ≡ factorFrom s i → N ≡ width s → c ≡ root s i → m ≡ power s i
+      → Puts rootRoom (rootLine c m) at old mid half → Puts (rowRoom * m) (rowLines N m (rowsAt s from N)) mid half next new
+      → Puts (rootRoom + rowRoom * power s i) (factorText s i) at old next new
+  unfolding factorText
+  factor-put i at from N c m e q u v f g =
+      let lines : (N m o : ℕ) → List ℕ = λ N m o. rowLines N m (rowsAt s o N) in
+      let rows = fun-ext (λ j. fun-ext (λ t. factor-rows i j t)) in
+      puts-as (rootRoom + rowRoom * power s i) (factorText s i) (puts-then f g)
+      (ap₂ _++_ (ap₂ rootLine u v) (ap (λ N. lines N m from) q ∙ ap₂ (lines (width s)) v e ∙ ap (rowLines (width s) (power s i)) rows)) (omega arith)
+
+  -- a loop that puts factors: at its start, one factor further, and at its end
+  pub factors-none : (at : ℕ) (old : List ℕ) → at ≤ length old → Puts (rootRoom * 0 + rowRoom * sumTo 0 (power s)) (joinTo 0 (factorText s)) at old at old
+  unfolding joinTo
+  factors-none at old l = puts-as _ _ (puts-none at old l) refl (omega arith)
+
+  pub factors-on : (i at : ℕ) {place next : ℕ} {old out new : List ℕ} → Puts (rootRoom * i + rowRoom * sumTo i (power s)) (joinTo i (factorText s)) at old place out
+      → Puts (rootRoom + rowRoom * power s i) (factorText s i) place out next new → Puts (rootRoom * (i + 1) + rowRoom * sumTo (i + 1) (power s)) (joinTo (i + 1) (factorText s)) at old next new
+  factors-on i at f g =
+      let e = sumTo-suc i (power s) in
+      let q = ap (λ (k : ℕ). sumTo k (power s)) (add-one i) in
+      puts-as (rootRoom * (i + 1) + rowRoom * sumTo (i + 1) (power s)) (joinTo (i + 1) (factorText s)) (puts-then f g) (sym (join-next i (factorText s))) (omega arith)
+
+  -- room for the next factor
+  pub factors-room : (i : ℕ) → i < count s → rootRoom * i + rowRoom * sumTo i (power s) + (rootRoom + rowRoom * power s i) ≤ factorsRoom
+  factors-room i l = omega (arith, upto-power s (h .placed) i l, h .degree-high, h .count-high)
+
+  pub factors-end : (i at : ℕ) {place : ℕ} {old out : List ℕ} → Puts (rootRoom * i + rowRoom * sumTo i (power s)) (joinTo i (factorText s)) at old place out → i ≡ count s
+      → Puts factorsRoom (joinTo (count s) (factorText s)) at old place out
+  factors-end i at f e =
+      let q = ap (λ (k : ℕ). sumTo k (power s)) e in
+      puts-as factorsRoom (joinTo (count s) (factorText s)) f (ap (λ (k : ℕ). joinTo k (factorText s)) e) (omega (arith, h .placed .powers-sum, h .degree-high, h .count-high))
+
+-- line 1, by the header that was read, and then the factors
+pub listing-put : (s : List ℕ) (h : Header) → HeaderIs s h → {mid next : ℕ} {old half new : List ℕ} → Puts headRoom (headLine (h .p) (h .terms) (h .degree) (h .count)) 0 old mid half
+    → Puts factorsRoom (joinTo (count s) (factorText s)) mid half next new → Puts textRoom (listingText s) 0 old next new
+unfolding listingText
+listing-put s h e f g =
+    let line : headLine (h .p) (h .terms) (h .degree) (h .count) ≡ headLine (modulus s) (terms s) (degree s) (count s) = simp (e .p-is, e .terms-is, e .degree-is, e .count-is) in
+    puts-as textRoom (listingText s) (puts-then f g) (ap (λ (l : List ℕ). l ++ joinTo (count s) (factorText s)) line) (omega arith)

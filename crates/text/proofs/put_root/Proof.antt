@@ -1,0 +1,45 @@
+-- `text::put_root` meets its contract: one piece after another.
+-- Assumes nothing.
+use Rattle.text.specs.Text.{rootLine}
+use Rattle.text.proofs.TextLaws.{puts-then}
+use borrow.Author.Needs.{needs}
+use Rattle.text.proofs.put_root.Statement.{statement}
+use Rattle.text.proofs.put_root.Tie as tie
+
+slice-aggregate-put-named : tie.Need-slice-aggregate-put-named
+slice-aggregate-put-named c = search needs
+
+put-named-requires : tie.Need-put-named-requires
+put-named-requires c κs = search needs
+
+slice-aggregate-put-named-2 : tie.Need-slice-aggregate-put-named-2
+slice-aggregate-put-named-2 c = search needs
+
+put-named-requires-2 : tie.Need-put-named-requires-2
+put-named-requires-2 c κs = search needs
+
+slice-aggregate-put : tie.Need-slice-aggregate-put
+slice-aggregate-put c = search needs
+
+put-requires : tie.Need-put-requires
+put-requires c κs = search needs
+
+same-length : tie.Need-same-length
+same-length c = search needs
+
+returns : tie.Need-returns
+unfolding rootLine
+returns c = puts-then (c .before .before .before .before .before .before .before .before .before .before .before .before .put-named .ensures) (puts-then (c .before .before .before .before .before .before .before .put-named2 .ensures) (c .before .before .put .ensures))
+
+pub put-root-spec : {M : Type 1} → statement M
+put-root-spec =
+    tie.close
+    (tie.spec
+    slice-aggregate-put-named
+    put-named-requires
+    slice-aggregate-put-named-2
+    put-named-requires-2
+    slice-aggregate-put
+    put-requires
+    same-length
+    returns)

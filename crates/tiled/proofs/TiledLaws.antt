@@ -1,0 +1,361 @@
+-- The columns of a split by tiles: what the sums add up, and that what stands beside the rows keeps up with them.
+-- Assumes nothing.
+use mathlib.Core.Path.{_≡_, sym, ap, ap₂, subst, _∙_}
+use mathlib.Core.Logic.{⊎-elim, _⊎_, inl, inr}
+use mathlib.Core.List.{List, _++_}
+use Prim.Native.Nat.{ℕ, _+_, _-_, _*_, _/_, _%_, _≤_, _<_}
+use native.Mathlib.Nat.{div-add-mod', mod-lt, mul-le-mul, eq-or-lt-of-le, add-zero, add-mul, mul-zero}
+use native.Mathlib.Omega.{arith}
+use lib.Dec.{ltb}
+use borrow.Author.Tests.{lt-ltb, le-ltb, le-leb, lt-leb}
+use lib.ListN.{length, take, drop, replicate, length-append, length-take, length-drop, length-replicate, getD-replicate, List·getD-append, List·getD-eq-default}
+use lib.Seq.{ext-getD, getD-append-add, getD-drop, getD-take, length-take-le}
+use Rattle.algebra.specs.Sums.{sumTo, sumTo-zero, sumTo-ext, sumTo-bound, sumTo-zeros, sumTo-append}
+use Rattle.numbers.specs.Words.{word, choose, tabulate, AllBelow}
+use Rattle.numbers.proofs.WordsLaws.{lt-or-ge, length-tabulate, word-tabulate, tabulate-ext, tabulate-below, from, word-from, length-from}
+use Rattle.numbers.specs.Limits.{modulusBound, largestDegree, mostRows, largestWidth}
+use Rattle.series.proofs.SeriesLaws.{word-below, sum-next}
+use Rattle.rows.specs.Rows.{rowsOf}
+use Rattle.rows.specs.Passes.{weightSum}
+use Rattle.rows.proofs.RowsLaws.{rows-below, rows-past, passTerm, pass-all, by-row, row-fits}
+use Rattle.columns.specs.Column.{middleSum, ColumnStored}
+use Rattle.solution.specs.Table.{leftAt}
+use Rattle.tiles.specs.Tile.{tileAt, tileRow, TilePut}
+use Rattle.tiled.specs.Tiled.{laneSum, laneTerm, tileSums, Tiled, Sizes, Room}
+use Rattle.tiles.proofs.TileLaws.{word-fits, lane}
+use Rattle.solution.proofs.StepLaws.{same-or-not, left-below}
+
+-- the words of a list, part of which a call wrote anew
+abbrev pub put : (a len : ℕ) (s y : List ℕ) → List ℕ
+put a len s y = take a s ++ (y ++ drop len (drop a s))
+
+module _ (a len : ℕ) (s y : List ℕ) (fits : a + len ≤ length s) (ny : length y ≡ len) where
+  front : length (take a s) ≡ a
+  front = length-take-le a s (omega arith)
+
+  pub put-long : length (put a len s y) ≡ length s
+  put-long = length-append (take a s) _ ∙ omega (arith, front, length-append y (drop len (drop a s)), length-drop len (drop a s), length-drop a s)
+
+  pub put-before : (z : ℕ) → z < a → word (put a len s y) z ≡ word s z
+  put-before z l = List·getD-append (take a s) (y ++ drop len (drop a s)) 0 z (omega (arith, front)) ∙ getD-take a s z 0 l
+
+  inner : (i : ℕ) → word (put a len s y) (a + i) ≡ word (y ++ drop len (drop a s)) i
+  inner i = ap (λ v. word (put a len s y) (v + i)) (sym front) ∙ getD-append-add (take a s) (y ++ drop len (drop a s)) i 0
+
+  pub put-in : (i : ℕ) → i < len → word (put a len s y) (a + i) ≡ word y i
+  put-in i l = inner i ∙ List·getD-append y (drop len (drop a s)) 0 i (omega arith)
+
+  pub put-past : (z : ℕ) → a + len ≤ z → word (put a len s y) z ≡ word s z
+  put-past z l =
+      let i = z - (a + len) in
+      let e : a + (len + i) ≡ z = omega arith in
+      ap (word (put a len s y)) (sym e) ∙ inner (len + i) ∙ ap (λ v. word (y ++ drop len (drop a s)) (v + i)) (sym ny)
+      ∙ getD-append-add y (drop len (drop a s)) i 0 ∙ getD-drop len (drop a s) i 0 ∙ getD-drop a s (len + i) 0 ∙ ap (word s) e
+
+-- what a row adds to a sum
+module _ (t N lanes : ℕ) (pairs tiles : List ℕ) where
+  pub term-in : (j a : ℕ) → a ≤ j → j - a < lanes → laneTerm t N lanes pairs tiles j a ≡ laneSum t N pairs tiles a (j - a)
+  unfolding laneTerm
+  term-in j a l g = simp (le-leb a j l, lt-ltb (j - a) lanes g)
+
+  pub term-before : (j a : ℕ) → j < a → laneTerm t N lanes pairs tiles j a ≡ 0
+  unfolding laneTerm
+  term-before j a l = simp (lt-leb a j l)
+
+  pub term-past : (j a : ℕ) → a ≤ j → lanes ≤ j - a → laneTerm t N lanes pairs tiles j a ≡ 0
+  unfolding laneTerm
+  term-past j a l g = simp (le-leb a j l, le-ltb (j - a) lanes g)
+
+  module _ (top : t ≤ largestWidth) (bp : AllBelow modulusBound pairs) (bt : AllBelow modulusBound tiles) where
+    lane-bound : (a i : ℕ) → laneSum t N pairs tiles a i ≤ 71776110504837375
+    unfolding laneSum
+    lane-bound a i =
+        let z = sumTo-bound (t - 1) 281474943156225 (λ s. word pairs (a * (2 * N) + (2 * (s + 1) + i % 2)) * word tiles (i / 8 * (8 * N) + (8 * (t - (s + 1)) + i % 8)))
+        (λ s u. word-fits _ _ (word-below modulusBound pairs (omega arith) bp _) (word-below modulusBound tiles (omega arith) bt _)) in
+        let q : (t - 1) * 281474943156225 ≤ 255 * 281474943156225 = mul-le-mul {n₂ = 255} {m₂ = 281474943156225} (omega arith) (omega arith) in
+        omega arith
+
+    term-bound : (j a : ℕ) → laneTerm t N lanes pairs tiles j a ≤ 71776110504837375
+    term-bound j a =
+        ⊎-elim (λ (l : j < a). let e = term-before j a l in omega arith)
+        (λ (l : a ≤ j). ⊎-elim (λ (g : j - a < lanes). let e = term-in j a l g in let z = lane-bound a (j - a) in omega arith) (λ (g : lanes ≤ j - a). let e = term-past j a l g in omega arith) (lt-or-ge (j - a) lanes))
+        (lt-or-ge j a)
+
+    pub sums-bound : (m j : ℕ) → m ≤ largestDegree → tileSums m t N lanes pairs tiles j < 2305843009213693952
+    sums-bound m j l =
+        let z = sumTo-bound m 71776110504837375 (laneTerm t N lanes pairs tiles j) (λ a _. term-bound j a) in
+        let q : m * 71776110504837375 ≤ 32 * 71776110504837375 = mul-le-mul {n₂ = 32} {m₂ = 71776110504837375} l (omega arith) in
+        omega arith
+
+-- no row is added yet, and one row more
+pub sums-none : (t N lanes m : ℕ) (pairs tiles s S : List ℕ) → length s ≡ m + lanes → S ≡ tabulate (length s) (λ _. 0)
+    → (length S ≡ m + lanes) × ((j : ℕ) → j < m + lanes → word S j ≡ tileSums 0 t N lanes pairs tiles j)
+sums-none t N lanes m pairs tiles s S n e = (
+  ap length e ∙ length-tabulate (length s) _ ∙ n,
+  λ j l. ap (λ v. word v j) e ∙ word-tabulate (length s) _ j (omega arith) ∙ sym (sumTo-zero _),
+)
+
+pub row-is : (t N : ℕ) (pairs tiles x : List ℕ) (a i : ℕ) → tileRow t N (from pairs (a * (2 * N))) tiles x i ≡ word x i + laneSum t N pairs tiles a i
+unfolding tileRow laneSum
+row-is t N pairs tiles x a i =
+    ap (λ v. word x i + v) (sumTo-ext (t - 1) (λ s _. ap (λ v. v * tileAt N tiles (t - (s + 1)) i) (word-from pairs (a * (2 * N)) (2 * (s + 1) + i % 2))))
+
+pub sums-step : (t N lanes m len : ℕ) (pairs tiles S Y : List ℕ) (a : ℕ) → a < m → len ≡ lanes → length S ≡ m + lanes
+    → ((j : ℕ) → j < m + lanes → word S j ≡ tileSums a t N lanes pairs tiles j)
+    → Y ≡ tabulate lanes (tileRow t N (from pairs (a * (2 * N))) tiles (take len (drop a S)))
+    → (length (put a len S Y) ≡ m + lanes) × ((j : ℕ) → j < m + lanes → word (put a len S Y) j ≡ tileSums (a + 1) t N lanes pairs tiles j)
+sums-step t N lanes m len pairs tiles S Y a l q n h e =
+    let ny : length Y ≡ len = ap length e ∙ length-tabulate lanes _ ∙ sym q in
+    let room : a + len ≤ length S = omega arith in (
+      put-long a len S Y room ny ∙ n,
+      λ j g.
+          let f = laneTerm t N lanes pairs tiles j in
+          let next : sumTo (a + 1) f ≡ sumTo a f + f a = sum-next a f in
+          let old = h j g in
+          ⊎-elim
+          (λ (u : j < a). let z = put-before a len S Y room ny j u in let y = term-before t N lanes pairs tiles j a u in omega arith)
+          (λ (u : a ≤ j). ⊎-elim
+          (λ (v : j - a < lanes).
+          let k : a + (j - a) ≡ j = omega arith in
+          let z : word (put a len S Y) j ≡ word S j + laneSum t N pairs tiles a (j - a) =
+          ap (word (put a len S Y)) (sym k) ∙ put-in a len S Y room ny (j - a) (omega arith) ∙ ap (λ x. word x (j - a)) e ∙ word-tabulate lanes _ (j - a) v
+          ∙ row-is t N pairs tiles (take len (drop a S)) a (j - a)
+          ∙ ap (λ x. x + laneSum t N pairs tiles a (j - a)) (getD-take len (drop a S) (j - a) 0 (omega arith) ∙ getD-drop a S (j - a) 0 ∙ ap (word S) k) in
+          let y = term-in t N lanes pairs tiles j a u v in omega arith)
+          (λ (v : lanes ≤ j - a). let z = put-past a len S Y room ny j (omega arith) in let y = term-past t N lanes pairs tiles j a u v in omega arith)
+          (lt-or-ge (j - a) lanes))
+          (lt-or-ge j a),
+    )
+
+pub sums-all : (t N lanes m : ℕ) (pairs tiles S : List ℕ) (a : ℕ) → a ≡ m → length S ≡ m + lanes → ((j : ℕ) → j < m + lanes → word S j ≡ tileSums a t N lanes pairs tiles j)
+    → S ≡ tabulate (m + lanes) (tileSums m t N lanes pairs tiles)
+sums-all t N lanes m pairs tiles S a e n h =
+    ext-getD 0 S _ (n ∙ sym (length-tabulate (m + lanes) _))
+    (λ j l. h j (omega arith) ∙ ap (λ v. tileSums v t N lanes pairs tiles j) e ∙ sym (word-tabulate (m + lanes) _ j (omega arith)))
+
+-- what a call of `tile_row` is lent
+pub row-room : (t N m a : ℕ) (pairs : List ℕ) → a < m → t ≤ N → length pairs ≡ m * (2 * N) → 2 * t ≤ length (from pairs (a * (2 * N)))
+row-room t N m a pairs l g n = let z = row-fits a m (2 * N) l in omega (arith, length-from pairs (a * (2 * N)))
+
+pub part-long : (m lanes len a : ℕ) (S : List ℕ) → a < m → len ≡ lanes → length S ≡ m + lanes → length (take len (drop a S)) ≡ lanes
+part-long m lanes len a S l q n = length-take-le len (drop a S) (omega (arith, length-drop a S)) ∙ q
+
+pub part-below : (p m lanes len a : ℕ) (S : List ℕ) → a < m → len ≡ lanes → length S ≡ m + lanes → ((j : ℕ) → j < m + lanes → word S j < p) → AllBelow p (take len (drop a S))
+part-below p m lanes len a S l q n h i g =
+    let e = part-long m lanes len a S l q n in
+    rw (getD-take len (drop a S) i 0 (omega arith), getD-drop a S i 0) (h (a + i) (omega arith))
+
+-- a sum past which there is nothing
+cut : (n k : ℕ) (f : ℕ → ℕ) → n ≤ k → ((i : ℕ) → n ≤ i → i < k → f i ≡ 0) → sumTo k f ≡ sumTo n f
+cut n k f l h =
+    let e : n + (k - n) ≡ k = omega arith in
+    let z : sumTo (k - n) (λ i. f (n + i)) ≡ 0 = sumTo-zeros (k - n) _ (λ i g. h (n + i) (omega arith) (omega arith)) in
+    ap (λ v. sumTo v f) (sym e) ∙ sumTo-append n (k - n) f ∙ ap (λ v. sumTo n f + v) z ∙ add-zero _
+
+-- the sums are those of the rows
+module _ (N m k blocks t : ℕ) (s pairs tiles : List ℕ) (h : Tiled N m k blocks t s pairs tiles) (one : 1 ≤ t) (inside : t < N) (enough : k ≤ 8 * blocks) where
+  abbrev term : ℕ → ℕ → ℕ
+  term j = passTerm (rowsOf (take (m * N) s) N m) (rowsOf (drop (m * N) s) N k) j 1 (t - 1)
+
+  low-is : (a u : ℕ) → a < m → u < t - 1 → (l : ℕ) → l < 2 → word pairs (a * (2 * N) + (2 * (u + 1) + l)) ≡ rowsOf (take (m * N) s) N m a (1 + u)
+  low-is a u l g x y =
+      h .low a l (u + 1) (omega arith) (omega arith) x y ∙ ap (λ v. word s (a * N + v)) (let e : u + 1 ≡ 1 + u = omega arith in e)
+      ∙ sym (rows-below (take (m * N) s) N m a (1 + u) l ∙ getD-take (m * N) s (a * N + (1 + u)) 0 (let z = row-fits a m N l in omega arith))
+
+  high-is : (i u : ℕ) → i < 8 * blocks → u < t - 1 → tileAt N tiles (t - (u + 1)) i ≡ rowsOf (drop (m * N) s) N k i (1 + (t - 1 - (u + 1)))
+  high-is i u l g =
+      let v : t - (u + 1) ≡ 1 + (t - 1 - (u + 1)) = omega arith in
+      h .high (t - (u + 1)) (omega arith) (omega arith) i l ∙ ap (λ x. choose (ltb i k) (word s ((m + i) * N + x)) 0) v
+      ∙ ⊎-elim
+      (λ (b : i < k). rw (lt-ltb i k b)
+      (ap (word s) (let e = add-mul m i N in let z : (m + i) * N + (1 + (t - 1 - (u + 1))) ≡ m * N + (i * N + (1 + (t - 1 - (u + 1)))) = omega arith in z)
+      ∙ sym (rows-below (drop (m * N) s) N k i (1 + (t - 1 - (u + 1))) b ∙ getD-drop (m * N) s (i * N + (1 + (t - 1 - (u + 1)))) 0)))
+      (λ (b : k ≤ i). rw (le-ltb i k b) (sym (rows-past (drop (m * N) s) N k i (1 + (t - 1 - (u + 1))) b)))
+      (lt-or-ge i k)
+
+  term-is : (j a : ℕ) → a < m → a ≤ j → laneTerm t N (8 * blocks) pairs tiles j a ≡ term j a
+  unfolding laneSum
+  term-is j a l g =
+      ⊎-elim
+      (λ (b : j - a < 8 * blocks). term-in t N (8 * blocks) pairs tiles j a g b ∙ sumTo-ext (t - 1) (λ u z. ap₂ _*_ (low-is a u l z ((j - a) % 2) (lane (j - a))) (high-is (j - a) u b z)))
+      (λ (b : 8 * blocks ≤ j - a).
+      term-past t N (8 * blocks) pairs tiles j a g b
+      ∙ sym (sumTo-zeros (t - 1) _ (λ u _. ap (λ x. rowsOf (take (m * N) s) N m a (1 + u) * x) (rows-past (drop (m * N) s) N k (j - a) (1 + (t - 1 - (u + 1))) (omega arith)) ∙ mul-zero _)))
+      (lt-or-ge (j - a) (8 * blocks))
+
+  pub sums-are : (j : ℕ) → tileSums m t N (8 * blocks) pairs tiles j ≡ middleSum (rowsOf (take (m * N) s) N m) (rowsOf (drop (m * N) s) N k) j t
+  sums-are j =
+      ⊎-elim
+      (λ (l : m < j + 1). sumTo-ext m (λ a g. term-is j a g (omega arith)) ∙ pass-all (take (m * N) s) m (drop (m * N) s) k N j 1 (t - 1) m (omega arith) (omega arith))
+      (λ (l : j + 1 ≤ m).
+      cut (j + 1) m _ l (λ a lo hi. term-before t N (8 * blocks) pairs tiles j a (omega arith))
+      ∙ sumTo-ext (j + 1) (λ a g. term-is j a (omega arith) (omega arith)) ∙ pass-all (take (m * N) s) m (drop (m * N) s) k N j 1 (t - 1) (j + 1) (omega arith) (omega arith))
+      (lt-or-ge m (j + 1))
+
+  pub gathered-tiles : (p : ℕ) (e E S : List ℕ) → length e ≡ m + k → S ≡ tabulate (m + 8 * blocks) (tileSums m t N (8 * blocks) pairs tiles)
+      → E ≡ tabulate (length e) (λ j. (word s (j * N + t) + (p - word S j % p)) % p) → E ≡ tabulate (m + k) (leftAt p N m k s t)
+  unfolding leftAt
+  gathered-tiles p e E S n q r =
+      r ∙ ap (λ x. tabulate x (λ j. (word s (j * N + t) + (p - word S j % p)) % p)) n
+      ∙ tabulate-ext (m + k) _ _ (λ j l. ap (λ x. (word s (j * N + t) + (p - x % p)) % p) (ap (λ x. word x j) q ∙ word-tabulate (m + 8 * blocks) _ j (omega arith) ∙ sums-are j))
+
+-- word j of what the sums leave
+abbrev pub lessAt : (p N t : ℕ) (sums rows : List ℕ) → ℕ → ℕ
+lessAt p N t sums rows j = (word rows (j * N + t) + (p - word sums j % p)) % p
+
+-- words of a column that is stored
+pub stored-below : (p N t rows : ℕ) (e s s′ : List ℕ) → length e ≡ rows → length s ≡ rows * N → 1 ≤ N → ColumnStored N t e s s′ → AllBelow p e → AllBelow p s → AllBelow p s′
+stored-below p N t rows e s s′ ne n wide st be bs x l =
+    by-row rows N (λ x. word s′ x < p) wide
+    (λ j a u g. ⊎-elim (λ (q : u ≡ t). subst (λ v. word s′ (j * N + v) < p) (sym q) (subst (λ v. v < p) (sym (st .here j (omega arith))) (be j (omega arith))))
+    (λ apart. subst (λ v. v < p) (sym (st .others j (omega arith) u g apart)) (bs (j * N + u) (let z = row-fits j rows N a in omega arith))) (same-or-not u t))
+    x (let z = st .long in omega arith)
+
+two-lanes : (l : ℕ) → l < 2 → (l ≡ 0) ⊎ (l ≡ 1)
+two-lanes l g = ⊎-elim (λ (z : l < 1). inl (omega arith)) (λ (z : 1 ≤ l). inr (omega arith)) (lt-or-ge l 1)
+
+-- column t is stored, twice in the pairs, and put as lanes
+module _ (N m k blocks t : ℕ) (column old new pairs mid pairs′ tiles tiles′ : List ℕ) (inside : t < N) (enough : k ≤ 8 * blocks) (n : length column ≡ m + k) (b : AllBelow modulusBound column)
+    (first : ColumnStored (2 * N) (2 * t) (take m column) pairs mid) (second : ColumnStored (2 * N) (2 * t + 1) (take m column) mid pairs′)
+    (lanes : TilePut N blocks t (from column m) tiles tiles′) (h : Tiled N m k blocks t old pairs tiles) (st : ColumnStored N t column old new) where
+  nm : length (take m column) ≡ m
+  nm = length-take-le m column (omega arith)
+
+  kept : (j : ℕ) → j < m + k → (s : ℕ) → s < t → word new (j * N + s) ≡ word old (j * N + s)
+  kept j l s g = st .others j (omega arith) s (omega arith) (λ e. let z : ⊥ = omega arith in z)
+
+  stored : (j : ℕ) → j < m + k → word new (j * N + t) ≡ word column j
+  stored j l = st .here j (omega arith)
+
+  front-below : AllBelow modulusBound (take m column)
+  front-below i l = rw (getD-take m column i 0 (omega (arith, nm))) (b i (omega (arith, nm)))
+
+  rest-below : AllBelow modulusBound (from column m)
+  rest-below i l = rw (word-from column m i) (b (m + i) (omega (arith, length-from column m)))
+
+  mid-long : length mid ≡ m * (2 * N)
+  mid-long = first .long ∙ h .pairs-long
+
+  low-here : (a : ℕ) → a < m → (l : ℕ) → l < 2 → word pairs′ (a * (2 * N) + (2 * t + l)) ≡ word column a
+  low-here a g l u =
+      ⊎-elim
+      (λ (e : l ≡ 0).
+      let z : 2 * t + l ≡ 2 * t = omega arith in
+      ap (λ v. word pairs′ (a * (2 * N) + v)) z ∙ second .others a (omega (arith, nm)) (2 * t) (omega arith) (λ q. let y : ⊥ = omega arith in y)
+      ∙ first .here a (omega (arith, nm)) ∙ getD-take m column a 0 g)
+      (λ (e : l ≡ 1). ap (λ v. word pairs′ (a * (2 * N) + (2 * t + v))) e ∙ second .here a (omega (arith, nm)) ∙ getD-take m column a 0 g)
+      (two-lanes l u)
+
+  low-kept : (a : ℕ) → a < m → (s : ℕ) → s < t → (l : ℕ) → l < 2 → word pairs′ (a * (2 * N) + (2 * s + l)) ≡ word pairs (a * (2 * N) + (2 * s + l))
+  low-kept a g s u l v =
+      second .others a (omega (arith, nm)) (2 * s + l) (omega arith) (λ q. let y : ⊥ = omega arith in y)
+      ∙ first .others a (omega (arith, nm)) (2 * s + l) (omega arith) (λ q. let y : ⊥ = omega arith in y)
+
+  high-here : (i : ℕ) → i < 8 * blocks → tileAt N tiles′ t i ≡ choose (ltb i k) (word new ((m + i) * N + t)) 0
+  high-here i l =
+      lanes .here i l ∙ word-from column m i
+      ∙ ⊎-elim (λ (g : i < k). rw (lt-ltb i k g) (sym (stored (m + i) (omega arith)))) (λ (g : k ≤ i). rw (le-ltb i k g) (List·getD-eq-default column 0 (omega arith))) (lt-or-ge i k)
+
+  high-kept : (s : ℕ) → 1 ≤ s → s < t → (i : ℕ) → i < 8 * blocks → tileAt N tiles′ s i ≡ choose (ltb i k) (word new ((m + i) * N + s)) 0
+  high-kept s lo hi i l =
+      lanes .others s (omega arith) (λ q. let y : ⊥ = omega arith in y) i l ∙ h .high s lo hi i l
+      ∙ ⊎-elim (λ (g : i < k). rw (lt-ltb i k g) (sym (kept (m + i) (omega arith) s hi))) (λ (g : k ≤ i). rw (le-ltb i k g)) (lt-or-ge i k)
+
+  pub tiled-next : Tiled N m k blocks (t + 1) new pairs′ tiles′
+  tiled-next = record {
+    pairs-long = second .long ∙ mid-long;
+    tiles-long = lanes .long ∙ h .tiles-long;
+    pairs-below = stored-below modulusBound (2 * N) (2 * t + 1) m (take m column) mid pairs′ nm mid-long (omega arith) second front-below
+        (stored-below modulusBound (2 * N) (2 * t) m (take m column) pairs mid nm (h .pairs-long) (omega arith) first front-below (h .pairs-below));
+    tiles-below = lanes .below modulusBound (omega arith) rest-below (h .tiles-below);
+    low = λ a g s lo hi l u. ⊎-elim
+        (λ (e : s ≡ t). subst (λ v. word pairs′ (a * (2 * N) + (2 * v + l)) ≡ word new (a * N + v)) (sym e) (low-here a g l u ∙ sym (stored a (omega arith))))
+        (λ (e : s < t). low-kept a g s e l u ∙ h .low a g s lo e l u ∙ sym (kept a (omega arith) s e)) (eq-or-lt-of-le {n = s} {m = t} (omega arith));
+    high = λ s lo hi i l. ⊎-elim
+        (λ (e : s ≡ t). subst (λ v. tileAt N tiles′ v i ≡ choose (ltb i k) (word new ((m + i) * N + v)) 0) (sym e) (high-here i l))
+        (λ (e : s < t). high-kept s lo e i l) (eq-or-lt-of-le {n = s} {m = t} (omega arith));
+  }
+
+-- before column 1 nothing stands beside the rows
+pub tiled-none : (N m k blocks high : ℕ) (rows cells pairs tiles : List ℕ) → Room N m k blocks high cells pairs tiles → Tiled N m k blocks 1 rows pairs tiles
+tiled-none N m k blocks high rows cells pairs tiles r = record {
+  pairs-long = r .pairs-long;
+  tiles-long = r .tiles-long;
+  pairs-below = r .pairs-below;
+  tiles-below = r .tiles-below;
+  low = λ a l s lo hi. absurd (let z : ⊥ = omega arith in z);
+  high = λ s lo hi. absurd (let z : ⊥ = omega arith in z);
+}
+
+-- the lengths and bounds of what the calls are lent
+pub made-long : (n : ℕ) (f : ℕ → ℕ) (s : List ℕ) → s ≡ tabulate n f → length s ≡ n
+made-long n f s e = ap length e ∙ length-tabulate n f
+
+pub below-more : (p q : ℕ) (s : List ℕ) → p ≤ q → AllBelow p s → AllBelow q s
+below-more p q s l b i g = let z = b i g in omega arith
+
+pub left-small : (p N m k t : ℕ) (s E : List ℕ) → 1 ≤ p → p < modulusBound → E ≡ tabulate (m + k) (leftAt p N m k s t) → AllBelow modulusBound E
+left-small p N m k t s E pos small e = below-more p modulusBound E (omega arith) (subst (AllBelow p) (sym e) (left-below p m k N t s pos))
+
+pub column-small : (p n : ℕ) (T E R : List ℕ) → 1 ≤ p → p < modulusBound → R ≡ tabulate n (λ i. weightSum T n E i % p) → AllBelow modulusBound R
+column-small p n T E R pos small e =
+    below-more p modulusBound R (omega arith) (subst (AllBelow p) (sym e) (tabulate-below p n (λ i. weightSum T n E i % p) (λ i _. mod-lt _ pos)))
+
+pub column-is : (p N m k t : ℕ) (T s E R : List ℕ) → E ≡ tabulate (m + k) (leftAt p N m k s t) → R ≡ tabulate (m + k) (λ i. weightSum T (m + k) E i % p)
+    → R ≡ tabulate (m + k) (λ i. weightSum T (m + k) (tabulate (m + k) (leftAt p N m k s t)) i % p)
+column-is p N m k t T s E R e r = r ∙ ap (λ y. tabulate (m + k) (λ i. weightSum T (m + k) y i % p)) e
+
+-- arrays of 0, of which a part is lent
+abbrev pub blank : ℕ → List ℕ
+blank n = replicate n 0
+
+pub lent-long : (n x : ℕ) → x ≤ n → length (take x (blank n)) ≡ x
+lent-long n x l = length-take-le x (blank n) (omega (arith, length-replicate {A = ℕ} n 0))
+
+lent-below : (n x : ℕ) → AllBelow modulusBound (take x (blank n))
+lent-below n x i l =
+    let z : i < x = omega (arith, length-take x (blank n)) in
+    let y : i < n = omega (arith, length-take x (blank n), length-replicate {A = ℕ} n 0) in
+    rw (getD-take x (blank n) i 0 z, getD-replicate {A = ℕ} n i 0 0 y) (omega arith)
+
+-- as many tiles as hold k lanes
+pub tiles-hold : (k : ℕ) → k ≤ 8 * ((k + 7) / 8)
+tiles-hold k = omega (arith, div-add-mod' (k + 7) 8, mod-lt (k + 7) {m = 8} (omega arith))
+
+pub tiles-few : (k b : ℕ) → k ≤ 8 * b → (k + 7) / 8 ≤ b
+tiles-few k b l = omega (arith, div-add-mod' (k + 7) 8, mod-lt (k + 7) {m = 8} (omega arith))
+
+module _ (N m k : ℕ) (width : N ≤ largestWidth) (few : m ≤ 31) (lanes : k ≤ largestDegree) (room : m + k ≤ mostRows) where
+  pub cells-fit : (m + k + 7) / 8 * (8 * (m + k + 1)) ≤ 1360
+  cells-fit = let z : (m + k + 7) / 8 * (8 * (m + k + 1)) ≤ 5 * 272 = mul-le-mul {n₂ = 5} {m₂ = 272} (tiles-few (m + k) 5 (omega arith)) (omega arith) in omega arith
+
+  pub pairs-fit : m * (2 * N) ≤ 15872
+  pairs-fit = let z : m * (2 * N) ≤ 31 * 512 = mul-le-mul {n₂ = 31} {m₂ = 512} few (omega arith) in omega arith
+
+  pub tiles-fit : (k + 7) / 8 * (8 * N) ≤ 8192
+  tiles-fit = let z : (k + 7) / 8 * (8 * N) ≤ 4 * 2048 = mul-le-mul {n₂ = 4} {m₂ = 2048} (tiles-few k 4 (omega arith)) (omega arith) in omega arith
+
+  pub room-made : (a b c : ℕ) → (m + k + 7) / 8 * (8 * (m + k + 1)) ≤ a → m * (2 * N) ≤ b → (k + 7) / 8 * (8 * N) ≤ c
+      → Room N m k ((k + 7) / 8) ((m + k + 7) / 8) (take ((m + k + 7) / 8 * (8 * (m + k + 1))) (blank a)) (take (m * (2 * N)) (blank b)) (take ((k + 7) / 8 * (8 * N)) (blank c))
+  room-made a b c la lb lc = record {
+    cells-long = lent-long a _ la;
+    pairs-long = lent-long b _ lb;
+    tiles-long = lent-long c _ lc;
+    cells-below = lent-below a ((m + k + 7) / 8 * (8 * (m + k + 1)));
+    pairs-below = lent-below b (m * (2 * N));
+    tiles-below = lent-below c ((k + 7) / 8 * (8 * N));
+  }
+
+  pub sizes-are : (p : ℕ) → 1 ≤ p → p < modulusBound → 1 ≤ m → Sizes p N m k ((k + 7) / 8) ((m + k + 7) / 8)
+  sizes-are p pos small low = record {
+    some = pos;
+    small = small;
+    width = width;
+    m-low = low;
+    m-high = omega arith;
+    room = room;
+    lanes = tiles-hold k;
+    few = tiles-few k 5 (omega arith);
+    high-lanes = tiles-hold (m + k);
+    high-few = tiles-few (m + k) 5 (omega arith);
+  }

@@ -1,0 +1,75 @@
+-- `tiles::weights::reduce_sums` meets its contract. The invariant: the first i sums are reduced.
+-- Assumes nothing.
+use Prim.Native.Nat.{_≤_, _-_, _%_}
+use mathlib.Core.Path.{refl}
+use native.Mathlib.Omega.{arith}
+use lib.ListN.{length}
+use borrow.Author.Needs.{needs}
+use native.Mathlib.Nat.{mod-lt}
+use Rattle.numbers.specs.Words.{word, tabulate}
+use Rattle.numbers.proofs.WordsLaws.{Writing, writing-next}
+use Rattle.tiles.proofs.TileLaws.{step-start}
+use Rattle.tiles.proofs.WeightsLaws.{written}
+use Rattle.tiles.proofs.weights.reduce_sums.Statement.{statement}
+use Rattle.tiles.proofs.weights.reduce_sums.Tie as tie
+
+abbrev Inv-loop : tie.InvT-loop
+Inv-loop p sums out₀ modulus i₀ out i = (i ≤ length out₀) × Writing (tabulate i (λ k. word sums k % p)) out₀ out
+
+abbrev μ-loop : tie.MeasureT-loop
+μ-loop p sums out₀ modulus i₀ out i = length out₀ - i
+
+loop-holds : tie.Need-loop-holds Inv-loop μ-loop
+loop-holds c = (omega arith, step-start _ _)
+
+mul-out : tie.Need-mul-out Inv-loop μ-loop
+mul-out c = search needs
+
+shared-slice-read-out : tie.Need-shared-slice-read-out Inv-loop μ-loop
+shared-slice-read-out c = search needs
+
+rem-out : tie.Need-rem-out Inv-loop μ-loop
+rem-out c = search needs
+
+cast-out : tie.Need-cast-out Inv-loop μ-loop
+cast-out c = let a = c .before .before .before .args in omega (arith, mod-lt (word (a .sums .now) (c .before .before .loop .i)) {m = a .p} (omega arith))
+
+mul-out-2 : tie.Need-mul-out-2 Inv-loop μ-loop
+mul-out-2 c = search needs
+
+slice-write-out : tie.Need-slice-write-out Inv-loop μ-loop
+slice-write-out c = search needs
+
+add-i : tie.Need-add-i Inv-loop μ-loop
+add-i c = search needs
+
+loop-less : tie.Need-loop-less Inv-loop μ-loop
+loop-less c = search needs
+
+loop-again : tie.Need-loop-again Inv-loop μ-loop
+loop-again c = let l = c .before .before .loop in (omega arith, writing-next (l .i) _ _ _ _ (l .inv .1) refl (omega arith))
+
+same-length : tie.Need-same-length Inv-loop μ-loop
+same-length c = search needs
+
+returns : tie.Need-returns Inv-loop μ-loop
+returns c = written (c .before .loop .i) _ _ _ _ (c .before .loop .inv .1) (omega arith) refl
+
+pub reduce-sums-spec : {M : Type 1} → statement M
+reduce-sums-spec =
+    tie.close
+    (tie.spec
+    Inv-loop
+    μ-loop
+    loop-holds
+    mul-out
+    shared-slice-read-out
+    rem-out
+    cast-out
+    mul-out-2
+    slice-write-out
+    add-i
+    loop-less
+    loop-again
+    same-length
+    returns)
