@@ -1,7 +1,7 @@
 /* Bopkheul: Weierstrass pairs and Hensel factors over F_p[[X]], by proved code.
  *
  * A series is n words, word t the coefficient of X^t. A row polynomial of degree bound d is d + 1 series, row j the coefficient of Y^j, stored
- * row after row. A slice is a pointer and then its count of words (or bytes); a count of 0 takes any pointer but NULL. The slice that a call
+ * row after row. A slice is a pointer and then its count of words (or bytes); a count of 0 takes any pointer, NULL too. The slice that a call
  * writes must not overlap any other that it is given. Nothing is allocated, and nothing is kept from call to call.
  *
  * The result of a call is 64 bits wide:
@@ -16,6 +16,10 @@
 
 #include <stddef.h>
 #include <stdint.h>
+
+/* The version of this interface. */
+#define BK_VERSION_MAJOR 0
+#define BK_VERSION_MINOR 1
 
 #ifdef __cplusplus
 extern "C" {
@@ -88,6 +92,97 @@ uint64_t bk_sheet_replay(uint32_t *sheet, size_t sheet_count, const uint32_t *le
 /* The listing of a job file, which for a refused job is the one line `refused NUMBER DETAIL`. The answer is the number of bytes written; the only
  * refusal of the call itself is 10. */
 uint64_t bk_list(const uint8_t *job, size_t job_count, uint8_t *out, size_t out_count);
+
+/* From here on nothing that a caller needs to read.
+ *
+ * The archive's functions take no NULL. So each name that takes slices stands for a function of this header, which calls the archive's with the
+ * address of a word of its own for every slice whose count is 0. No word is read or written there. */
+static inline const uint32_t *bk_words_in(const uint32_t *words, size_t count) {
+    static const uint32_t none = 0;
+    return count ? words : &none;
+}
+static inline uint32_t *bk_words_out(uint32_t *words, size_t count) {
+    static uint32_t none = 0;
+    return count ? words : &none;
+}
+static inline const uint8_t *bk_bytes_in(const uint8_t *bytes, size_t count) {
+    static const uint8_t none = 0;
+    return count ? bytes : &none;
+}
+static inline uint8_t *bk_bytes_out(uint8_t *bytes, size_t count) {
+    static uint8_t none = 0;
+    return count ? bytes : &none;
+}
+
+static inline uint64_t bk_series_sum_any(uint32_t p, uint32_t n, const uint32_t *g, size_t g_count, const uint32_t *h, size_t h_count, uint32_t *out, size_t out_count) {
+    return bk_series_sum(p, n, bk_words_in(g, g_count), g_count, bk_words_in(h, h_count), h_count, bk_words_out(out, out_count), out_count);
+}
+static inline uint64_t bk_series_difference_any(uint32_t p, uint32_t n, const uint32_t *g, size_t g_count, const uint32_t *h, size_t h_count, uint32_t *out, size_t out_count) {
+    return bk_series_difference(p, n, bk_words_in(g, g_count), g_count, bk_words_in(h, h_count), h_count, bk_words_out(out, out_count), out_count);
+}
+static inline uint64_t bk_series_product_any(uint32_t p, uint32_t n, const uint32_t *g, size_t g_count, const uint32_t *h, size_t h_count, uint32_t *out, size_t out_count) {
+    return bk_series_product(p, n, bk_words_in(g, g_count), g_count, bk_words_in(h, h_count), h_count, bk_words_out(out, out_count), out_count);
+}
+static inline uint64_t bk_series_quotient_any(uint32_t p, uint32_t n, const uint32_t *g, size_t g_count, const uint32_t *h, size_t h_count, uint32_t *out, size_t out_count) {
+    return bk_series_quotient(p, n, bk_words_in(g, g_count), g_count, bk_words_in(h, h_count), h_count, bk_words_out(out, out_count), out_count);
+}
+static inline uint64_t bk_series_inverse_any(uint32_t p, uint32_t n, const uint32_t *g, size_t g_count, uint32_t *out, size_t out_count) {
+    return bk_series_inverse(p, n, bk_words_in(g, g_count), g_count, bk_words_out(out, out_count), out_count);
+}
+static inline uint64_t bk_rows_sum_any(uint32_t p, uint32_t d, uint32_t n, const uint32_t *f, size_t f_count, const uint32_t *g, size_t g_count, uint32_t *out, size_t out_count) {
+    return bk_rows_sum(p, d, n, bk_words_in(f, f_count), f_count, bk_words_in(g, g_count), g_count, bk_words_out(out, out_count), out_count);
+}
+static inline uint64_t bk_rows_difference_any(uint32_t p, uint32_t d, uint32_t n, const uint32_t *f, size_t f_count, const uint32_t *g, size_t g_count, uint32_t *out, size_t out_count) {
+    return bk_rows_difference(p, d, n, bk_words_in(f, f_count), f_count, bk_words_in(g, g_count), g_count, bk_words_out(out, out_count), out_count);
+}
+static inline uint64_t bk_rows_product_any(uint32_t p, uint32_t d1, uint32_t d2, uint32_t n, const uint32_t *f, size_t f_count, const uint32_t *g, size_t g_count, uint32_t *out, size_t out_count) {
+    return bk_rows_product(p, d1, d2, n, bk_words_in(f, f_count), f_count, bk_words_in(g, g_count), g_count, bk_words_out(out, out_count), out_count);
+}
+static inline uint64_t bk_rows_shift_any(uint32_t p, uint32_t d, uint32_t n, const uint32_t *f, size_t f_count, uint32_t c, uint32_t *out, size_t out_count) {
+    return bk_rows_shift(p, d, n, bk_words_in(f, f_count), f_count, c, bk_words_out(out, out_count), out_count);
+}
+static inline uint64_t bk_pair_any(uint32_t p, uint32_t d, uint32_t n, const uint32_t *f, size_t f_count, uint32_t w, uint32_t *out, size_t out_count) {
+    return bk_pair(p, d, n, bk_words_in(f, f_count), f_count, w, bk_words_out(out, out_count), out_count);
+}
+static inline uint64_t bk_pair_continue_any(uint32_t p, uint32_t d, uint32_t n, const uint32_t *f, size_t f_count, uint32_t h, uint32_t w, uint32_t *out, size_t out_count) {
+    return bk_pair_continue(p, d, n, bk_words_in(f, f_count), f_count, h, w, bk_words_out(out, out_count), out_count);
+}
+static inline uint64_t bk_sheet_open_any(uint32_t p, uint32_t d, uint32_t n, const uint32_t *f, size_t f_count, const uint32_t *roots, size_t roots_count, uint32_t *out, size_t out_count) {
+    return bk_sheet_open(p, d, n, bk_words_in(f, f_count), f_count, bk_words_in(roots, roots_count), roots_count, bk_words_out(out, out_count), out_count);
+}
+static inline uint64_t bk_sheet_extend_any(uint32_t *sheet, size_t sheet_count, uint32_t w) {
+    return bk_sheet_extend(bk_words_out(sheet, sheet_count), sheet_count, w);
+}
+static inline uint64_t bk_sheet_test_any(const uint32_t *sheet, size_t sheet_count) {
+    return bk_sheet_test(bk_words_in(sheet, sheet_count), sheet_count);
+}
+static inline uint64_t bk_sheet_factor_any(const uint32_t *sheet, size_t sheet_count, uint32_t i, uint32_t *out, size_t out_count) {
+    return bk_sheet_factor(bk_words_in(sheet, sheet_count), sheet_count, i, bk_words_out(out, out_count), out_count);
+}
+static inline uint64_t bk_sheet_replay_any(uint32_t *sheet, size_t sheet_count, const uint32_t *lent, size_t lent_count, const uint32_t *w, size_t w_count, uint32_t *answers, size_t answers_count) {
+    return bk_sheet_replay(bk_words_out(sheet, sheet_count), sheet_count, bk_words_in(lent, lent_count), lent_count, bk_words_in(w, w_count), w_count, bk_words_out(answers, answers_count), answers_count);
+}
+static inline uint64_t bk_list_any(const uint8_t *job, size_t job_count, uint8_t *out, size_t out_count) {
+    return bk_list(bk_bytes_in(job, job_count), job_count, bk_bytes_out(out, out_count), out_count);
+}
+
+#define bk_series_sum bk_series_sum_any
+#define bk_series_difference bk_series_difference_any
+#define bk_series_product bk_series_product_any
+#define bk_series_quotient bk_series_quotient_any
+#define bk_series_inverse bk_series_inverse_any
+#define bk_rows_sum bk_rows_sum_any
+#define bk_rows_difference bk_rows_difference_any
+#define bk_rows_product bk_rows_product_any
+#define bk_rows_shift bk_rows_shift_any
+#define bk_pair bk_pair_any
+#define bk_pair_continue bk_pair_continue_any
+#define bk_sheet_open bk_sheet_open_any
+#define bk_sheet_extend bk_sheet_extend_any
+#define bk_sheet_test bk_sheet_test_any
+#define bk_sheet_factor bk_sheet_factor_any
+#define bk_sheet_replay bk_sheet_replay_any
+#define bk_list bk_list_any
 
 #ifdef __cplusplus
 }

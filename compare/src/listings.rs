@@ -65,7 +65,7 @@ fn compare(random: &mut Random, report: &mut Report, job: &[u8]) {
     let room = random.room(text.len());
     let out: Vec<u8> = random.junk(room).iter().map(|&word| word as u8).collect();
     let input = || format!("job {job:?}");
-    report.call("list", input, &out, |o| engine(bopkheul::listing::list(job, o)), |o| second(second::listing::list(job, o)));
+    report.call("list", input, &[job], &out, |o| engine(bopkheul::listing::list(job, o)), |o| second(second::listing::list(job, o)));
 }
 
 pub fn run(random: &mut Random, report: &mut Report) {

@@ -2,6 +2,7 @@
 //! It stops at the first difference with the whole input, and otherwise prints how many cases of each kind it compared; a kind that did not come up is
 //! an error.
 
+mod demand_3;
 mod documents;
 mod extensions;
 mod listings;
@@ -21,8 +22,8 @@ use std::process::exit;
 
 type Section = fn(&mut Random, &mut Report);
 
-const SECTIONS: [Section; 9] =
-    [documents::run, numbers::run, series::run, rows::run, pairs::run, sheets::run, extensions::run, old_layout::run, listings::run];
+const SECTIONS: [Section; 10] =
+    [documents::run, numbers::run, series::run, rows::run, pairs::run, sheets::run, extensions::run, old_layout::run, listings::run, demand_3::run];
 
 fn seeds() -> Vec<u64> {
     let given: Vec<u64> = std::env::args().skip(1).map(|word| word.parse().expect("a seed is a number")).collect();

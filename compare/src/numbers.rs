@@ -7,10 +7,10 @@ use second::numbers as s;
 
 fn all_four(report: &mut Report, p: u32, value: u32, other: u32) {
     let input = || format!("p {p} value {value} other {other}");
-    report.call::<u32>("sum", input, &[], |_| engine(e::sum(p, value, other)), |_| second(s::sum(p, value, other)));
-    report.call::<u32>("difference", input, &[], |_| engine(e::difference(p, value, other)), |_| second(s::difference(p, value, other)));
-    report.call::<u32>("product", input, &[], |_| engine(e::product(p, value, other)), |_| second(s::product(p, value, other)));
-    report.call::<u32>("inverse", input, &[], |_| engine(e::inverse(p, value)), |_| second(s::inverse(p, value)));
+    report.call::<u32>("sum", input, &[], &[], |_| engine(e::sum(p, value, other)), |_| second(s::sum(p, value, other)));
+    report.call::<u32>("difference", input, &[], &[], |_| engine(e::difference(p, value, other)), |_| second(s::difference(p, value, other)));
+    report.call::<u32>("product", input, &[], &[], |_| engine(e::product(p, value, other)), |_| second(s::product(p, value, other)));
+    report.call::<u32>("inverse", input, &[], &[], |_| engine(e::inverse(p, value)), |_| second(s::inverse(p, value)));
 }
 
 pub fn run(random: &mut Random, report: &mut Report) {

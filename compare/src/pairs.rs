@@ -67,14 +67,21 @@ fn pair(report: &mut Report, case: &Case) -> Called<u32> {
     let Case { p, d, n, f, w, out } = case;
     let (p, d, n, w) = (*p, *d, *n, *w);
     let input = || format!("p {p} d {d} n {n} f {f:?} w {w}");
-    report.call("pair", input, out, |o| engine(e::pair(p, d, n, f, w, o)), |o| second(s::pair(p, d, n, f, w, o)))
+    report.call("pair", input, &[f], out, |o| engine(e::pair(p, d, n, f, w, o)), |o| second(s::pair(p, d, n, f, w, o)))
 }
 
 fn go_on(report: &mut Report, case: &Case, h: u32) -> Called<u32> {
     let Case { p, d, n, f, w, out } = case;
     let (p, d, n, w) = (*p, *d, *n, *w);
     let input = || format!("p {p} d {d} n {n} f {f:?} h {h} w {w}");
-    report.call("pair continue", input, out, |o| engine(e::pair_continue(p, d, n, f, h, w, o)), |o| second(s::pair_continue(p, d, n, f, h, w, o)))
+    report.call(
+        "pair continue",
+        input,
+        &[f],
+        out,
+        |o| engine(e::pair_continue(p, d, n, f, h, w, o)),
+        |o| second(s::pair_continue(p, d, n, f, h, w, o)),
+    )
 }
 
 fn several_goes(random: &mut Random, report: &mut Report, case: &Case) {

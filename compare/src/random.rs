@@ -2,8 +2,12 @@
 
 pub struct Random(u64);
 
-/// Small primes, so that powers pass p, and the largest one allowed.
-const PRIMES: [u32; 7] = [2, 3, 5, 7, 13, 251, 65521];
+/// The largest prime allowed.
+const LARGEST: u32 = 65_521;
+
+fn is_prime(p: u32) -> bool {
+    p >= 2 && (2..p).take_while(|d| d * d <= p).all(|d| !p.is_multiple_of(d))
+}
 
 impl Random {
     pub fn new(seed: u64) -> Random {
@@ -35,8 +39,17 @@ impl Random {
         from[self.below(from.len() as u32) as usize]
     }
 
+    /// A prime: often one of the least, so that powers pass p; now and then the largest; otherwise any, of each length in bits as often.
     pub fn prime(&mut self) -> u32 {
-        self.pick(&PRIMES)
+        match self.below(8) {
+            0..=3 => self.pick(&[2, 3, 5, 7, 11, 13]),
+            4 => LARGEST,
+            _ => {
+                let bits = self.within(2, 16);
+                let from = self.within(1 << (bits - 1), (1 << bits) - 1);
+                (2..=from).rev().find(|&p| is_prime(p)).expect("2 is a prime")
+            }
+        }
     }
 
     /// Words below p; now and then mostly zeros, so that factors end early.

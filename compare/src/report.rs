@@ -2,6 +2,7 @@
 
 use std::collections::BTreeMap;
 use std::fmt::Debug;
+use std::hint::black_box;
 use std::process::exit;
 
 /// An answer, or a refusal's number and detail.
@@ -66,7 +67,7 @@ pub const OPERATIONS: [Operation; 22] = [
 ];
 
 /// Kinds of inputs: each must have come up.
-pub const KINDS: [&str; 49] = [
+pub const KINDS: [&str; 53] = [
     "document 01's examples",
     "the sheet of document 02's F-8",
     "every modulus from 0 to 66,000",
@@ -116,6 +117,10 @@ pub const KINDS: [&str; 49] = [
     "old layout: a stored sheet of three roots or more",
     "old layout: a fresh sheet of one or two roots",
     "old layout: a fresh sheet of three roots or more",
+    "demand 3: alike in every column that both have worked",
+    "demand 3: alike below some column, and unlike in it",
+    "demand 3: one degree, unlike at X = 0",
+    "demand 3: unlike degrees",
 ];
 
 #[derive(Default)]
@@ -134,17 +139,25 @@ impl Report {
         *self.outcomes.entry((operation, number)).or_default() += 1;
     }
 
-    /// One call of both: the outcome and every word lent must be the same, and a refusal must leave the words as they were.
+    /// One call of both: the outcome and every word lent must be the same, a refusal must leave the words as they were, and the engine must leave its
+    /// inputs as they were.
     pub fn call<W: Copy + Eq + Debug>(
         &mut self,
         operation: &'static str,
         input: impl Fn() -> String,
+        inputs: &[&[W]],
         lent: &[W],
         engine: impl FnOnce(&mut [W]) -> Outcome,
         second: impl FnOnce(&mut [W]) -> Outcome,
     ) -> Called<W> {
         let (mut mine, mut other) = (lent.to_vec(), lent.to_vec());
-        let (answer, expected) = (engine(&mut mine), second(&mut other));
+        let before = inputs.concat();
+        let answer = engine(&mut mine);
+        // the compiler may take a slice that is only read for unchanged; the engine is what is doubted here
+        if black_box(inputs).concat() != before {
+            differ(operation, &input(), lent, &format!("the engine wrote to its inputs, which were {before:?}"));
+        }
+        let expected = second(&mut other);
         let number = answer.err().map_or(0, |refusal| refusal.0);
         self.outcome(operation, number);
         if answer != expected {

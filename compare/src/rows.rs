@@ -59,16 +59,16 @@ fn compare_same_bound(report: &mut Report, case: &Case) {
     let Case { p, d: [d, _], n, inputs: [f, g], c, out } = case;
     let (p, d, n, c) = (*p, *d, *n, *c);
     let input = || format!("p {p} d {d} n {n} f {f:?} g {g:?} c {c}");
-    report.call("rows sum", input, out, |o| engine(e::sum(p, d, n, f, g, o)), |o| second(s::sum(p, d, n, f, g, o)));
-    report.call("rows difference", input, out, |o| engine(e::difference(p, d, n, f, g, o)), |o| second(s::difference(p, d, n, f, g, o)));
-    report.call("rows shift", input, out, |o| engine(e::shift(p, d, n, f, c, o)), |o| second(s::shift(p, d, n, f, c, o)));
+    report.call("rows sum", input, &[f, g], out, |o| engine(e::sum(p, d, n, f, g, o)), |o| second(s::sum(p, d, n, f, g, o)));
+    report.call("rows difference", input, &[f, g], out, |o| engine(e::difference(p, d, n, f, g, o)), |o| second(s::difference(p, d, n, f, g, o)));
+    report.call("rows shift", input, &[f], out, |o| engine(e::shift(p, d, n, f, c, o)), |o| second(s::shift(p, d, n, f, c, o)));
 }
 
 fn compare_product(report: &mut Report, case: &Case) {
     let Case { p, d: [d1, d2], n, inputs: [f, g], out, .. } = case;
     let (p, d1, d2, n) = (*p, *d1, *d2, *n);
     let input = || format!("p {p} d1 {d1} d2 {d2} n {n} f {f:?} g {g:?}");
-    report.call("rows product", input, out, |o| engine(e::product(p, d1, d2, n, f, g, o)), |o| second(s::product(p, d1, d2, n, f, g, o)));
+    report.call("rows product", input, &[f, g], out, |o| engine(e::product(p, d1, d2, n, f, g, o)), |o| second(s::product(p, d1, d2, n, f, g, o)));
 }
 
 pub fn run(random: &mut Random, report: &mut Report) {

@@ -55,11 +55,11 @@ fn compare(report: &mut Report, case: &Case) {
     let Case { p, n, inputs: [g, h], out } = case;
     let (p, n) = (*p, *n);
     let input = || format!("p {p} n {n} g {g:?} h {h:?}");
-    report.call("series sum", input, out, |o| engine(e::sum(p, n, g, h, o)), |o| second(s::sum(p, n, g, h, o)));
-    report.call("series difference", input, out, |o| engine(e::difference(p, n, g, h, o)), |o| second(s::difference(p, n, g, h, o)));
-    report.call("series product", input, out, |o| engine(e::product(p, n, g, h, o)), |o| second(s::product(p, n, g, h, o)));
-    report.call("series quotient", input, out, |o| engine(e::quotient(p, n, g, h, o)), |o| second(s::quotient(p, n, g, h, o)));
-    report.call("series inverse", input, out, |o| engine(e::inverse(p, n, g, o)), |o| second(s::inverse(p, n, g, o)));
+    report.call("series sum", input, &[g, h], out, |o| engine(e::sum(p, n, g, h, o)), |o| second(s::sum(p, n, g, h, o)));
+    report.call("series difference", input, &[g, h], out, |o| engine(e::difference(p, n, g, h, o)), |o| second(s::difference(p, n, g, h, o)));
+    report.call("series product", input, &[g, h], out, |o| engine(e::product(p, n, g, h, o)), |o| second(s::product(p, n, g, h, o)));
+    report.call("series quotient", input, &[g, h], out, |o| engine(e::quotient(p, n, g, h, o)), |o| second(s::quotient(p, n, g, h, o)));
+    report.call("series inverse", input, &[g], out, |o| engine(e::inverse(p, n, g, o)), |o| second(s::inverse(p, n, g, o)));
 }
 
 pub fn run(random: &mut Random, report: &mut Report) {

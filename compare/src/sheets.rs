@@ -69,15 +69,15 @@ fn open(report: &mut Report, given: &Given, out: &[u32]) -> Called<u32> {
     let Given { p, d, n, f, roots } = given;
     let (p, d, n) = (*p, *d, *n);
     let input = || format!("p {p} d {d} n {n} f {f:?} roots {roots:?}");
-    report.call("sheet open", input, out, |o| engine(e::open(p, d, n, f, roots, o)), |o| second(s::open(p, d, n, f, roots, o)))
+    report.call("sheet open", input, &[f, roots], out, |o| engine(e::open(p, d, n, f, roots, o)), |o| second(s::open(p, d, n, f, roots, o)))
 }
 
 pub fn extend(report: &mut Report, sheet: &[u32], w: u32) -> Called<u32> {
-    report.call("sheet extend", || format!("w {w}"), sheet, |o| engine(e::extend(o, w)), |o| second(s::extend(o, w)))
+    report.call("sheet extend", || format!("w {w}"), &[], sheet, |o| engine(e::extend(o, w)), |o| second(s::extend(o, w)))
 }
 
 pub fn test(report: &mut Report, sheet: &[u32]) -> bool {
-    let called = report.call("sheet test", String::new, sheet, |o| Ok(e::test(o) as u32), |o| Ok(s::test(o) as u32));
+    let called = report.call("sheet test", String::new, &[], sheet, |o| Ok(e::test(o) as u32), |o| Ok(s::test(o) as u32));
     called.outcome == Ok(1)
 }
 
@@ -85,7 +85,14 @@ pub fn test(report: &mut Report, sheet: &[u32]) -> bool {
 fn read(random: &mut Random, report: &mut Report, sheet: &[u32], i: u32) {
     let room = random.pick(&[0, 3, 4, 4, 5]);
     let out = random.junk(room);
-    report.call("sheet factor", || format!("i {i} sheet {sheet:?}"), &out, |o| engine(e::factor(sheet, i, o)), |o| second(s::factor(sheet, i, o)));
+    report.call(
+        "sheet factor",
+        || format!("i {i} sheet {sheet:?}"),
+        &[sheet],
+        &out,
+        |o| engine(e::factor(sheet, i, o)),
+        |o| second(s::factor(sheet, i, o)),
+    );
 }
 
 /// A fresh sheet and perhaps some words more; T words are enough for it, and T − 1 are not.
@@ -143,7 +150,7 @@ fn spoil_calls(random: &mut Random, calls: &mut Calls, length: u32) {
 }
 
 /// The calls one by one, then the same list by one call, then the plain count: all must agree.
-fn several_goes(random: &mut Random, report: &mut Report, fresh: &[u32]) -> Vec<u32> {
+pub fn several_goes(random: &mut Random, report: &mut Report, fresh: &[u32]) -> Vec<u32> {
     let calls = calls(random, fresh);
     let mut sheet = fresh.to_vec();
     let mut answers = Vec::new();
@@ -174,6 +181,7 @@ fn replay(random: &mut Random, report: &mut Report, fresh: &[u32], calls: &Calls
     let called = report.call(
         "sheet replay",
         || format!("{calls:?} on {fresh:?}"),
+        &[lent, w],
         &out,
         |o| engine(e::replay(&mut mine, lent, w, o)),
         |o| second(s::replay(&mut other, lent, w, o)),
@@ -199,6 +207,7 @@ fn part(random: &mut Random, report: &mut Report, sheet: &[u32]) {
     report.call(
         "rows shift",
         input,
+        &[rows],
         &out,
         |o| engine(engine_rows::shift(p, power - 1, n, rows, c, o)),
         |o| second(second_rows::shift(p, power - 1, n, rows, c, o)),

@@ -34,7 +34,8 @@ pub mod series;
 pub mod sheet;
 
 pub use refusal::{Kind, Refusal};
-pub use sheet::{Factor, Sheet};
+pub use sheet::{Factor, FromWordsError, Sheet};
 
-/// What every operation answers: a number that its documentation names, or why it did nothing.
+/// What every operation answers: a number that its documentation names, or why it did nothing. Refusals have the numbers of [`Kind`]; of several that are
+/// listed, the first that applies is given.
 pub type Answer = Result<u32, Refusal>;

@@ -3,9 +3,13 @@
 use crate::raw::{answer, bk_list};
 use crate::Answer;
 
-/// Writes the listing of a job file, which for a refused job is one line, `refused NUMBER DETAIL`. The answer is the number of bytes; the only refusal
-/// of the call itself is 10.
+/// Writes the listing of a job file, which for a refused job is one line, `refused NUMBER DETAIL`. The answer is the number of bytes.
+///
+/// # Errors
+///
+/// Refused by 10 alone, where `out` is too short for the listing.
 pub fn list(job: &[u8], out: &mut [u8]) -> Answer {
+    // SAFETY: each pointer goes with the count of its slice, and `out` does not overlap the job.
     answer(unsafe { bk_list(job.as_ptr(), job.len(), out.as_mut_ptr(), out.len()) })
 }
 

@@ -10,7 +10,7 @@ pub struct Refusal {
     pub detail: u32,
 }
 
-/// The refusals by name.
+/// The refusals by name, numbered from 1.
 #[derive(Clone, Copy, Debug, PartialEq, Eq, Hash)]
 #[non_exhaustive]
 pub enum Kind {
@@ -54,6 +54,7 @@ const KINDS: [Kind; 16] = [
 ];
 
 impl Refusal {
+    /// The refusal's name.
     pub fn kind(self) -> Kind {
         KINDS.into_iter().find(|&kind| kind as u32 == self.number).unwrap_or(Kind::Unknown)
     }

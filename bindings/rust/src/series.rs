@@ -4,26 +4,51 @@ use crate::raw::{answer, bk_series_difference, bk_series_inverse, bk_series_prod
 use crate::Answer;
 
 /// g + h.
+///
+/// # Errors
+///
+/// Refused by 1, 2, 4, 5, 6 or 10.
 pub fn sum(p: u32, n: u32, g: &[u32], h: &[u32], out: &mut [u32]) -> Answer {
+    // SAFETY: each pointer goes with the count of its slice, and `out` overlaps neither input.
     answer(unsafe { bk_series_sum(p, n, g.as_ptr(), g.len(), h.as_ptr(), h.len(), out.as_mut_ptr(), out.len()) })
 }
 
 /// g − h.
+///
+/// # Errors
+///
+/// Refused by 1, 2, 4, 5, 6 or 10.
 pub fn difference(p: u32, n: u32, g: &[u32], h: &[u32], out: &mut [u32]) -> Answer {
+    // SAFETY: each pointer goes with the count of its slice, and `out` overlaps neither input.
     answer(unsafe { bk_series_difference(p, n, g.as_ptr(), g.len(), h.as_ptr(), h.len(), out.as_mut_ptr(), out.len()) })
 }
 
 /// g · h.
+///
+/// # Errors
+///
+/// Refused by 1, 2, 4, 5, 6 or 10.
 pub fn product(p: u32, n: u32, g: &[u32], h: &[u32], out: &mut [u32]) -> Answer {
+    // SAFETY: each pointer goes with the count of its slice, and `out` overlaps neither input.
     answer(unsafe { bk_series_product(p, n, g.as_ptr(), g.len(), h.as_ptr(), h.len(), out.as_mut_ptr(), out.len()) })
 }
 
 /// g / h, where h is not 0 at X = 0.
+///
+/// # Errors
+///
+/// Refused by 1, 2, 4, 5, 6, 10 or 12.
 pub fn quotient(p: u32, n: u32, g: &[u32], h: &[u32], out: &mut [u32]) -> Answer {
+    // SAFETY: each pointer goes with the count of its slice, and `out` overlaps neither input.
     answer(unsafe { bk_series_quotient(p, n, g.as_ptr(), g.len(), h.as_ptr(), h.len(), out.as_mut_ptr(), out.len()) })
 }
 
 /// 1 / g, where g is not 0 at X = 0.
+///
+/// # Errors
+///
+/// Refused by 1, 2, 4, 5, 6, 10 or 12.
 pub fn inverse(p: u32, n: u32, g: &[u32], out: &mut [u32]) -> Answer {
+    // SAFETY: each pointer goes with the count of its slice, and `out` does not overlap the input.
     answer(unsafe { bk_series_inverse(p, n, g.as_ptr(), g.len(), out.as_mut_ptr(), out.len()) })
 }

@@ -20,41 +20,84 @@
 
 use crate::raw::{answer, bk_sheet_extend, bk_sheet_factor, bk_sheet_open, bk_sheet_replay, bk_sheet_test};
 use crate::{Answer, Refusal};
+use std::error::Error;
+use std::fmt;
 
 /// Writes a sheet with one term to the front of `out`, from f, monic of degree `d`, and its roots at X = 0; the answer is its number of words.
+///
+/// # Errors
+///
+/// Refused by one of 1 to 10.
 pub fn open(p: u32, d: u32, n: u32, f: &[u32], roots: &[u32], out: &mut [u32]) -> Answer {
+    // SAFETY: each pointer goes with the count of its slice, and `out` overlaps neither input.
     answer(unsafe { bk_sheet_open(p, d, n, f.as_ptr(), f.len(), roots.as_ptr(), roots.len(), out.as_mut_ptr(), out.len()) })
 }
 
 /// Works a sheet on to `w` terms; the answer is `w`.
+///
+/// # Errors
+///
+/// Refused by 13, 14 or 15.
 pub fn extend(sheet: &mut [u32], w: u32) -> Answer {
+    // SAFETY: pointer and count are those of one slice.
     answer(unsafe { bk_sheet_extend(sheet.as_mut_ptr(), sheet.len(), w) })
 }
 
 /// Whether the words begin with a sound sheet.
 pub fn test(sheet: &[u32]) -> bool {
+    // SAFETY: pointer and count are those of one slice, which is only read.
     unsafe { bk_sheet_test(sheet.as_ptr(), sheet.len()) == 1 }
 }
 
 /// Writes root, power, and start and length, in words of the sheet, of the part that holds the rows of factor `i`, counted from 0; the answer is 4.
+///
+/// # Errors
+///
+/// Refused by 13, 10 or 16, in this order.
 pub fn factor(sheet: &[u32], i: u32, out: &mut [u32]) -> Answer {
+    // SAFETY: each pointer goes with the count of its slice, and `out` does not overlap the sheet.
     answer(unsafe { bk_sheet_factor(sheet.as_ptr(), sheet.len(), i, out.as_mut_ptr(), out.len()) })
 }
 
 /// Makes a list of extend calls: call `l` is lent the first `lent[l]` words and extends to `w[l]` terms. Two words are written for each call: 0 and its
-/// answer, or the refusal's number and detail. The answer is the number of words written. Lists of unlike lengths, or a call that lends more words than
-/// there are, are refused by 5.
+/// answer, or the refusal's number and detail. The answer is the number of words written.
+///
+/// # Errors
+///
+/// Refused by 5, where the lists have unlike lengths or a call lends more words than there are, or by 10.
 pub fn replay(sheet: &mut [u32], lent: &[u32], w: &[u32], answers: &mut [u32]) -> Answer {
-    answer(unsafe {
-        let (to, room) = (answers.as_mut_ptr(), answers.len());
-        bk_sheet_replay(sheet.as_mut_ptr(), sheet.len(), lent.as_ptr(), lent.len(), w.as_ptr(), w.len(), to, room)
-    })
+    let (to, room) = (answers.as_mut_ptr(), answers.len());
+    // SAFETY: each pointer goes with the count of its slice; the sheet and `answers` overlap no other.
+    answer(unsafe { bk_sheet_replay(sheet.as_mut_ptr(), sheet.len(), lent.as_ptr(), lent.len(), w.as_ptr(), w.len(), to, room) })
 }
 
-/// A sound sheet that owns its words.
-#[derive(Clone, Debug, PartialEq, Eq)]
+/// A sound sheet that owns its words. Two are equal where the sheets are: words past their ends have no part in it.
+#[derive(Clone, Debug)]
 pub struct Sheet {
     words: Vec<u32>,
+}
+
+/// Why words are no sheet, and the words, given back as they were.
+#[derive(Clone, Debug, PartialEq, Eq)]
+pub struct FromWordsError {
+    /// Always 13.
+    pub refusal: Refusal,
+    pub words: Vec<u32>,
+}
+
+impl fmt::Display for FromWordsError {
+    fn fmt(&self, to: &mut fmt::Formatter) -> fmt::Result {
+        fmt::Display::fmt(&self.refusal, to)
+    }
+}
+
+impl Error for FromWordsError {}
+
+/// For `?` where only the refusal is of use.
+impl From<FromWordsError> for Refusal {
+    fn from(error: FromWordsError) -> Refusal {
+        error.refusal
+    }
 }
 
 /// A factor: monic of degree `power`, and (Y − `root`)^`power` at X = 0.
@@ -68,7 +111,14 @@ pub struct Factor<'a> {
 
 impl<'a> Factor<'a> {
     /// The coefficient of Y^j, for j below the power.
+    ///
+    /// # Panics
+    ///
+    /// Where `j` is not below the power.
+    #[track_caller]
     pub fn row(&self, j: usize) -> &'a [u32] {
+        // with this the product below cannot wrap, nor end past the rows
+        assert!(j < self.power as usize, "a factor of power {} has no row {j}", self.power);
         let columns = self.rows.len() / self.power as usize;
         &self.rows[j * columns..(j + 1) * columns]
     }
@@ -76,6 +126,10 @@ impl<'a> Factor<'a> {
 
 impl Sheet {
     /// A sheet with one term, from f, monic of degree `d` with `n` columns, and its roots at X = 0 in rising order.
+    ///
+    /// # Errors
+    ///
+    /// Refused by one of 1 to 9.
     pub fn open(p: u32, d: u32, n: u32, f: &[u32], roots: &[u32]) -> Result<Sheet, Refusal> {
         let needed = match open(p, d, n, f, roots, &mut []) {
             Err(Refusal { number: 10, detail }) => detail,
@@ -86,17 +140,25 @@ impl Sheet {
         Ok(Sheet { words })
     }
 
-    /// A sheet from words that were stored: refused by 13 where they are not sound, as where a sheet of three roots or more holds cofactors too, which an
-    /// earlier layout had. Words past the sheet's end are kept.
-    pub fn from_words(words: Vec<u32>) -> Result<Sheet, Refusal> {
+    /// A sheet from words that were stored. Words past the sheet's end are kept.
+    ///
+    /// # Errors
+    ///
+    /// Refused by 13 where the words are not sound, as where a sheet of three roots or more holds cofactors too, which an earlier layout had. The error gives
+    /// the words back.
+    pub fn from_words(words: Vec<u32>) -> Result<Sheet, FromWordsError> {
         if test(&words) {
             Ok(Sheet { words })
         } else {
-            Err(Refusal { number: 13, detail: 0 })
+            Err(FromWordsError { refusal: Refusal { number: 13, detail: 0 }, words })
         }
     }
 
     /// Works the factors out to `w` terms, from those there; the answer is `w`.
+    ///
+    /// # Errors
+    ///
+    /// Refused by 14 or 15.
     pub fn extend(&mut self, w: u32) -> Answer {
         extend(&mut self.words, w)
     }
@@ -107,6 +169,10 @@ impl Sheet {
     }
 
     /// Factor `i`, counted from 0.
+    ///
+    /// # Errors
+    ///
+    /// Refused by 16 where there are no more than `i` factors.
     pub fn factor(&self, i: u32) -> Result<Factor<'_>, Refusal> {
         let mut found = [0; 4];
         factor(&self.words, i, &mut found)?;
@@ -140,11 +206,26 @@ impl Sheet {
         self.words[4]
     }
 
+    /// All words, those past the sheet's end too.
     pub fn words(&self) -> &[u32] {
         &self.words
     }
 
+    /// The words of [`Sheet::words`], handed over.
     pub fn into_words(self) -> Vec<u32> {
         self.words
     }
+
+    /// The words that are the sheet: the first T, which is word 9.
+    fn own_words(&self) -> &[u32] {
+        &self.words[..self.words[9] as usize]
+    }
 }
+
+impl PartialEq for Sheet {
+    fn eq(&self, other: &Sheet) -> bool {
+        self.own_words() == other.own_words()
+    }
+}
+
+impl Eq for Sheet {}

@@ -1,0 +1,105 @@
+//! What the crate adds to the engine: a sheet that owns its words, its getters, and a factor's rows.
+
+use bopkheul::{sheet, Factor, FromWordsError, Kind, Refusal, Sheet};
+use std::panic::catch_unwind;
+
+/// Y³ + Y² + XY + X = (Y² + X) (Y + 1) modulo 2, with three columns, two of them worked: 10 + 2 · 2 + 7 · 3 words.
+const F: [u32; 12] = [0, 1, 0, 0, 1, 0, 1, 0, 0, 1, 0, 0];
+const WORDS: [u32; 35] = [
+    2, 3, 3, 2, 2, 10, 14, 26, 35, 35, // p, d, n, terms, r, offsets, total
+    0, 2, 1, 1, // roots and powers
+    0, 1, 0, 0, 1, 0, 1, 0, 0, 1, 0, 0, // f
+    0, 1, 0, 0, 0, 0, // Y² + X
+    1, 0, 0, // Y + 1
+];
+
+fn worked() -> Sheet {
+    let mut sheet = Sheet::open(2, 3, 3, &F, &[0, 1]).expect("f splits so");
+    assert_eq!(sheet.extend(2), Ok(2));
+    sheet
+}
+
+#[test]
+fn getters() {
+    let sheet = worked();
+    assert_eq!(sheet.modulus(), 2);
+    assert_eq!(sheet.degree(), 3);
+    assert_eq!(sheet.columns(), 3);
+    assert_eq!(sheet.terms(), 2);
+    assert_eq!(sheet.count(), 2);
+    assert_eq!(sheet.words(), WORDS);
+    assert!(sheet.test());
+}
+
+#[test]
+fn terms_follow_extend() {
+    let mut sheet = Sheet::open(2, 3, 3, &F, &[0, 1]).expect("f splits so");
+    assert_eq!(sheet.terms(), 1);
+    assert_eq!(sheet.extend(3), Ok(3));
+    assert_eq!(sheet.terms(), 3);
+    assert_eq!(sheet.extend(2), Err(Refusal { number: 15, detail: 0 }));
+    assert_eq!(sheet.extend(4), Err(Refusal { number: 14, detail: 0 }));
+    assert_eq!(sheet.terms(), 3);
+    assert!(sheet.test());
+}
+
+#[test]
+fn factors_and_their_rows() {
+    let sheet = worked();
+    let first = sheet.factor(0).expect("there are two");
+    assert_eq!(first, Factor { root: 0, power: 2, rows: &[0, 1, 0, 0, 0, 0] });
+    assert_eq!(first.row(0), [0, 1, 0]);
+    assert_eq!(first.row(1), [0, 0, 0]);
+    assert_eq!(sheet.factor(1), Ok(Factor { root: 1, power: 1, rows: &[1, 0, 0] }));
+    assert_eq!(sheet.factor(2).map_err(Refusal::kind), Err(Kind::NoFactor));
+}
+
+/// Also where an index times the columns would wrap round to a row that is there: 2^63 times 2 is 0.
+#[test]
+fn a_row_that_is_not_there_panics() {
+    let rows = [1, 2, 3, 4];
+    let factor = Factor { root: 0, power: 2, rows: &rows };
+    assert_eq!(factor.row(1), [3, 4]);
+    for j in [2, 3, usize::MAX, usize::MAX / 2 + 1] {
+        assert!(catch_unwind(|| factor.row(j).len()).is_err(), "row {j}");
+    }
+    let empty = Factor { root: 0, power: 0, rows: &[] };
+    assert!(catch_unwind(|| empty.row(0).len()).is_err());
+}
+
+#[test]
+fn words_go_out_and_come_back() {
+    let sheet = worked();
+    let words = sheet.clone().into_words();
+    assert_eq!(words, WORDS);
+    assert!(sheet::test(&words));
+    assert_eq!(Sheet::from_words(words), Ok(sheet));
+}
+
+#[test]
+fn refused_words_are_given_back() {
+    let mut words = WORDS.to_vec();
+    words[27] = 0; // Y² is no factor to two terms
+    assert!(!sheet::test(&words));
+    let error = Sheet::from_words(words.clone()).expect_err("the factors' product is not f");
+    assert_eq!(error, FromWordsError { refusal: Refusal { number: 13, detail: 0 }, words });
+    assert_eq!(error.to_string(), error.refusal.to_string());
+    assert_eq!(Refusal::from(error).kind(), Kind::Spoiled);
+
+    let short = WORDS[..34].to_vec();
+    assert_eq!(Sheet::from_words(short.clone()).map_err(|error| error.words), Err(short));
+    assert_eq!(Sheet::from_words(Vec::new()).map_err(|error| error.words), Err(Vec::new()));
+}
+
+#[test]
+fn words_past_the_end_are_kept_but_not_compared() {
+    let mut longer = WORDS.to_vec();
+    longer.extend([7, 8, 9]);
+    let mut sheet = Sheet::from_words(longer.clone()).expect("words past the end are free");
+    assert_eq!(sheet.words(), longer);
+    assert_eq!(sheet, worked());
+
+    assert_eq!(sheet.extend(3), Ok(3));
+    assert_ne!(sheet, worked());
+    assert_eq!(sheet.into_words()[35..], [7, 8, 9]);
+}

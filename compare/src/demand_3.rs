@@ -1,0 +1,140 @@
+//! Demand 3 on pairs of sheets over one p: a list of calls on each is answered as the plain count says, and then the two factor lists agree below X^j exactly
+//! when the two polynomials do.
+
+use crate::polynomials::{self, Given};
+use crate::random::Random;
+use crate::report::Report;
+use crate::sheets::{extend, opened, several_goes};
+use bopkheul::{Factor, Sheet};
+
+/// Rows, one after the other, and their number of columns.
+type Rows<'a> = (&'a [u32], u32);
+
+/// Whether there are as many rows, and the same columns below j in each.
+fn same_below(j: usize, (f, n): Rows, (g, m): Rows) -> bool {
+    let (f, g) = (f.chunks(n as usize), g.chunks(m as usize));
+    f.len() == g.len() && f.zip(g).all(|(a, b)| a[..j] == b[..j])
+}
+
+fn polynomials_agree(j: usize, f: &Given, g: &Given) -> bool {
+    same_below(j, (&f.f, f.n), (&g.f, g.n))
+}
+
+/// A sheet's factors, and their number of columns.
+fn factors(sheet: &Sheet) -> (Vec<Factor<'_>>, u32) {
+    let factors = (0..sheet.count()).map(|i| sheet.factor(i).expect("a sheet has its factors"));
+    (factors.collect(), sheet.columns())
+}
+
+fn factors_agree(j: usize, (f, n): &(Vec<Factor>, u32), (g, m): &(Vec<Factor>, u32)) -> bool {
+    let agree = |(a, b): (&Factor, &Factor)| (a.root, a.power) == (b.root, b.power) && same_below(j, (a.rows, *n), (b.rows, *m));
+    f.len() == g.len() && f.iter().zip(g).all(agree)
+}
+
+/// The kind of a pair of monic polynomials that agree below this column, of so many that both sheets have worked.
+fn kind(f: &Given, g: &Given, agreeing: usize, worked: usize) -> &'static str {
+    match agreeing {
+        _ if agreeing == worked => "demand 3: alike in every column that both have worked",
+        0 if f.d != g.d => "demand 3: unlike degrees",
+        0 => "demand 3: one degree, unlike at X = 0",
+        _ => "demand 3: alike below some column, and unlike in it",
+    }
+}
+
+/// For every j from 1 to the smaller K.
+fn expect_agreement(report: &mut Report, given: [&Given; 2], words: [&[u32]; 2]) {
+    let [f, g] = given;
+    let [a, b] = words.map(|words| Sheet::from_words(words.to_vec()).expect("the calls leave a sound sheet"));
+    let worked = a.terms().min(b.terms()) as usize;
+    let (a, b) = (factors(&a), factors(&b)); // once, since reading a factor tests the whole sheet
+    let mut agreeing = 0;
+    for j in 1..=worked {
+        let (polynomials, factors) = (polynomials_agree(j, f, g), factors_agree(j, &a, &b));
+        if polynomials != factors {
+            report.expect(false, &format!("below X^{j} the polynomials agree: {polynomials}, and the factors: {factors}, of {words:?}"));
+        }
+        agreeing += polynomials as usize;
+    }
+    report.kind(kind(f, g, agreeing, worked));
+}
+
+/// Once after lists of calls, so that the sheets have any terms, and once with all.
+fn compare(random: &mut Random, report: &mut Report, f: &Given, g: &Given) {
+    let sheets = [f, g].map(|given| {
+        let fresh = opened(random, report, given);
+        several_goes(random, report, &fresh)
+    });
+    expect_agreement(report, [f, g], [&sheets[0], &sheets[1]]);
+    let sheets = sheets.map(|sheet| {
+        let called = extend(report, &sheet, sheet[2]);
+        report.expect(called.outcome == Ok(sheet[2]), &format!("{sheet:?} extends to all terms"));
+        called.words
+    });
+    expect_agreement(report, [f, g], [&sheets[0], &sheets[1]]);
+}
+
+/// The same polynomial with another number of columns: those that both have are the same.
+fn with_columns(random: &mut Random, given: &Given, n: u32) -> Given {
+    let mut f = Vec::new();
+    for (j, row) in given.f.chunks(given.n as usize).enumerate() {
+        let bound = if j < given.d as usize { given.p } else { 1 }; // the top row is 1, 0, 0, ..
+        f.extend((0..n as usize).map(|t| row.get(t).copied().unwrap_or_else(|| random.below(bound))));
+    }
+    Given { n, f, ..given.clone() }
+}
+
+/// The same below column t, and another number in one row of column t; past it the same, or anything.
+fn parting(random: &mut Random, given: &Given, t: u32) -> Given {
+    let (p, d, n) = (given.p, given.d, given.n);
+    let mut other = given.clone();
+    if random.once_in(2) {
+        let lower = other.f.chunks_mut(n as usize).take(d as usize);
+        lower.for_each(|row| row[t as usize + 1..].fill_with(|| random.below(p)));
+    }
+    let word = &mut other.f[(random.below(d) * n + t) as usize];
+    *word = (*word + random.within(1, p - 1)) % p;
+    other
+}
+
+fn other_degree(random: &mut Random, d: u32) -> u32 {
+    let other = random.within(1, 11);
+    if other < d {
+        other
+    } else {
+        other + 1
+    }
+}
+
+fn small(random: &mut Random, report: &mut Report, i: u32) {
+    let (p, d, n) = (random.prime(), random.degree().clamp(1, 12), random.columns().clamp(2, 24));
+    let f = polynomials::any(random, report, p, d, n);
+    let m = if random.once_in(2) { n } else { random.within(1, 24) };
+    let g = match i % 4 {
+        0 => with_columns(random, &f, m),
+        1 => {
+            let t = random.within(1, n - 1);
+            let parted = parting(random, &f, t);
+            with_columns(random, &parted, m)
+        }
+        2 => polynomials::any(random, report, p, d, m),
+        _ => {
+            let d = other_degree(random, d);
+            polynomials::any(random, report, p, d, m)
+        }
+    };
+    compare(random, report, &f, &g);
+}
+
+/// The largest sheets, which part in the last column or before.
+fn large(random: &mut Random, report: &mut Report) {
+    for (p, count, t) in [(65521, 32, 255), (251, 3, 128), (2, 2, 1)] {
+        let f = polynomials::with_roots(random, report, p, 32, 256, count);
+        let g = parting(random, &f, t);
+        compare(random, report, &f, &g);
+    }
+}
+
+pub fn run(random: &mut Random, report: &mut Report) {
+    (0..1_600).for_each(|i| small(random, report, i));
+    large(random, report);
+}
