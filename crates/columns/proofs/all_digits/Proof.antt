@@ -1,4 +1,4 @@
--- `pair::kernel::all_digits` meets its contract. The loop's invariant: the first i words are the first digits, and the others are what is left.
+-- `columns::all_digits` meets its contract. The loop's invariant: the first i words are the first digits, and the others are what is left.
 -- Assumes nothing.
 use mathlib.Core.Path.{_≡_, refl, sym, ap, _∙_}
 use mathlib.Core.List.{List, _++_}

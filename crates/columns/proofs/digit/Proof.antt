@@ -1,4 +1,4 @@
--- `pair::kernel::digit` meets its contract.
+-- `columns::digit` meets its contract.
 -- Assumes nothing.
 use mathlib.Core.Path.{ap, _∙_}
 use Prim.Native.Nat.{_*_, _%_}

@@ -1,4 +1,4 @@
--- `pair::kernel::expand` meets its contract. The loop's invariant: from i on the digits are expanded, before i they are the old ones.
+-- `columns::expand` meets its contract. The loop's invariant: from i on the digits are expanded, before i they are the old ones.
 -- Assumes nothing.
 use mathlib.Core.Path.{_≡_, refl, ap, _∙_}
 use Prim.Native.Nat.{ℕ, _≤_, _-_}

@@ -1,4 +1,4 @@
--- `pair::kernel::horner` meets its contract. The loop's invariant: from j on the words are those of the scheme, before j the old ones.
+-- `columns::horner` meets its contract. The loop's invariant: from j on the words are those of the scheme, before j the old ones.
 -- Assumes nothing.
 use mathlib.Core.Path.{_≡_}
 use Prim.Native.Nat.{_<_, _-_, _+_, _*_}

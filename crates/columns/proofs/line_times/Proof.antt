@@ -1,4 +1,4 @@
--- `pair::kernel::line_times` meets its contract. The loop's invariant: before j the words are the new ones, from there on the old ones.
+-- `columns::line_times` meets its contract. The loop's invariant: before j the words are the new ones, from there on the old ones.
 -- Assumes nothing.
 use Prim.Native.Nat.{_≤_, _-_, _+_, _*_}
 use native.Mathlib.Nat.{mod-lt}

@@ -1,4 +1,4 @@
--- `pair::kernel::load_column` meets its contract. The loop's invariant: before j the words are the column's, from there on the old ones.
+-- `columns::load_column` meets its contract. The loop's invariant: before j the words are the column's, from there on the old ones.
 -- Assumes nothing.
 use mathlib.Core.Path.{_≡_, refl, _∙_}
 use Prim.Native.Nat.{_≤_, _-_, _+_, _*_}

@@ -1,4 +1,4 @@
--- `pair::kernel::prepare` meets its contract.
+-- `columns::prepare` meets its contract.
 -- Assumes nothing.
 use mathlib.Core.Path.{ap, _∙_}
 use mathlib.Core.List.{List}

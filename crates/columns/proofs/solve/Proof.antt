@@ -1,4 +1,4 @@
--- `pair::kernel::solve` meets its contract: the digits, and then the first m of them expanded.
+-- `columns::solve` meets its contract: the digits, and then the first m of them expanded.
 -- Assumes nothing.
 use mathlib.Core.Path.{sym, ap}
 use native.Mathlib.Omega.{arith}

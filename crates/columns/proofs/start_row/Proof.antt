@@ -1,4 +1,4 @@
--- `pair::kernel::start_row` meets its contract. The loop's invariant: the words before t are written.
+-- `columns::start_row` meets its contract. The loop's invariant: the words before t are written.
 -- Assumes nothing.
 use mathlib.Core.Path.{_≡_, refl, ap, _∙_}
 use Prim.Native.Nat.{ℕ, _≤_, _-_}

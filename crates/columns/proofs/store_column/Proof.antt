@@ -1,4 +1,4 @@
--- `pair::kernel::store_column` meets its contract. The loop's invariant: the first j words of e are stored.
+-- `columns::store_column` meets its contract. The loop's invariant: the first j words of e are stored.
 -- Assumes nothing.
 use Prim.Native.Nat.{_≤_, _-_}
 use native.Mathlib.Omega.{arith}
