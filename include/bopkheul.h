@@ -1,7 +1,7 @@
-/* Bopkheul: Weierstrass pairs and Hensel factors over F_p[[X]], by proved code.
+/* Bopkheul: Hensel factors and Weierstrass pairs of polynomials over F_p[[X]], by proved code.
  *
- * A series is n words, word t the coefficient of X^t. A row polynomial of degree bound d is d + 1 series, row j the coefficient of Y^j, stored
- * row after row. A slice is a pointer and then its count of words (or bytes); a count of 0 takes any pointer, NULL too. The slice that a call
+ * A power series has n words, that at t being its coefficient of X^t. A row polynomial is the series at Y^0, Y^1, .. up to Y^d, one after the other; d is
+ * its degree bound. A slice is a pointer and then its count of words (or bytes); a count of 0 takes any pointer, NULL too. The slice that a call
  * writes must not overlap any other that it is given. Nothing is allocated, and nothing is kept from call to call.
  *
  * The result of a call is 64 bits wide:
@@ -25,21 +25,21 @@
 extern "C" {
 #endif
 
-/* Why a call is refused. Checks run in the order of the numbers, but for those of a sheet's words, which are judged first. */
+/* Why a call is refused. Checks run in the order of the numbers; where a call is lent a sheet and takes from it what it needs, 13 comes first. */
 enum bk_refusal {
     BK_ACCEPTED = 0,
     BK_MODULUS_RANGE = 1, /* p is below 2 or above 65,535 */
     BK_COMPOSITE = 2,     /* p is composite; detail: its least divisor above 1 */
     BK_DEGREE = 3,        /* a degree bound, or a product's, is above 32; for opening a sheet also 0 */
     BK_TERMS = 4,         /* n is outside 1..256 */
-    BK_ROWS = 5,          /* an input is not exactly as long as d and n say; see also bk_sheet_replay */
-    BK_UNREDUCED = 6,     /* a coefficient, root or number is p or more; detail: the first one's position from 0, inputs counted on in the order given */
+    BK_ROWS = 5,          /* an input has more or fewer words than d and n give it; see also bk_sheet_replay */
+    BK_UNREDUCED = 6,     /* some coefficient, root or number is not below p; detail: the first one's position from 0, inputs counted on in the order given */
     BK_NOT_MONIC = 7,     /* opening: row d is not 1, 0, 0, .. */
     BK_ROOT_LIST = 8,     /* opening: the roots are none, more than d, or not strictly rising */
-    BK_UNSPLIT = 9,       /* opening: no powers, all 1 or more, of the roots give f at X = 0 */
+    BK_UNSPLIT = 9,       /* opening: f at X = 0 is no product of the Y - root, each taken at least once */
     BK_SHORT = 10,        /* the output is too short; detail: the words (or bytes) needed */
-    BK_FLAT = 11,         /* pair: every row is 0 at X = 0 */
-    BK_NO_UNIT = 12,      /* the divisor is 0 at X = 0, or the number inverted is 0 */
+    BK_FLAT = 11,         /* pair: f has no row that is other than 0 at X = 0 */
+    BK_NO_UNIT = 12,      /* the divisor begins with 0; to invert: a number that is 0 */
     BK_SPOILED = 13,      /* the words are no sound sheet; or, continuing a pair, not its first h terms followed by zeros */
     BK_BEYOND = 14,       /* the terms wanted are 0 or more than n */
     BK_BEHIND = 15,       /* the terms wanted are fewer than those there */
@@ -83,8 +83,13 @@ uint64_t bk_sheet_extend(uint32_t *sheet, size_t sheet_count, uint32_t w);
 /* 1 where the words begin with a sound sheet, else 0; it refuses nothing. */
 uint64_t bk_sheet_test(const uint32_t *sheet, size_t sheet_count);
 /* Factor i, counted from 0: writes its root, its power, and start and length, in words of the sheet, of the part that holds its rows below the
- * leading 1. The answer is 4. A spoiled sheet is refused before a short output, and that before an index with no factor. */
+ * leading 1. The answer is 4. Refused by 10, 13 or 16, in this order. */
 uint64_t bk_sheet_factor(const uint32_t *sheet, size_t sheet_count, uint32_t i, uint32_t *out, size_t out_count);
+/* That part is a row polynomial whose bound is one below the power, and these pass it on where it stands: times g, of bound e, and at Y + c. Modulus, bound
+ * and n are the sheet's. The answer is the number of words written. Refused by 13 or 16, and then as bk_rows_product and bk_rows_shift are; positions in
+ * the detail of 6 are counted from the first word of the part. */
+uint64_t bk_sheet_factor_times(const uint32_t *sheet, size_t sheet_count, uint32_t i, uint32_t e, const uint32_t *g, size_t g_count, uint32_t *out, size_t out_count);
+uint64_t bk_sheet_factor_shift(const uint32_t *sheet, size_t sheet_count, uint32_t i, uint32_t c, uint32_t *out, size_t out_count);
 /* A list of extend calls: call l is lent the first lent[l] words of the sheet and extends to w[l] terms. It writes two words for each call: 0 and the
  * answer, or the refusal's number and detail. Refused by 5: lent and w of unlike counts, or a call that lends more words than there are. */
 uint64_t bk_sheet_replay(uint32_t *sheet, size_t sheet_count, const uint32_t *lent, size_t lent_count, const uint32_t *w, size_t w_count, uint32_t *answers, size_t answers_count);
@@ -159,6 +164,12 @@ static inline uint64_t bk_sheet_test_any(const uint32_t *sheet, size_t sheet_cou
 static inline uint64_t bk_sheet_factor_any(const uint32_t *sheet, size_t sheet_count, uint32_t i, uint32_t *out, size_t out_count) {
     return bk_sheet_factor(bk_words_in(sheet, sheet_count), sheet_count, i, bk_words_out(out, out_count), out_count);
 }
+static inline uint64_t bk_sheet_factor_times_any(const uint32_t *sheet, size_t sheet_count, uint32_t i, uint32_t e, const uint32_t *g, size_t g_count, uint32_t *out, size_t out_count) {
+    return bk_sheet_factor_times(bk_words_in(sheet, sheet_count), sheet_count, i, e, bk_words_in(g, g_count), g_count, bk_words_out(out, out_count), out_count);
+}
+static inline uint64_t bk_sheet_factor_shift_any(const uint32_t *sheet, size_t sheet_count, uint32_t i, uint32_t c, uint32_t *out, size_t out_count) {
+    return bk_sheet_factor_shift(bk_words_in(sheet, sheet_count), sheet_count, i, c, bk_words_out(out, out_count), out_count);
+}
 static inline uint64_t bk_sheet_replay_any(uint32_t *sheet, size_t sheet_count, const uint32_t *lent, size_t lent_count, const uint32_t *w, size_t w_count, uint32_t *answers, size_t answers_count) {
     return bk_sheet_replay(bk_words_out(sheet, sheet_count), sheet_count, bk_words_in(lent, lent_count), lent_count, bk_words_in(w, w_count), w_count, bk_words_out(answers, answers_count), answers_count);
 }
@@ -181,6 +192,8 @@ static inline uint64_t bk_list_any(const uint8_t *job, size_t job_count, uint8_t
 #define bk_sheet_extend bk_sheet_extend_any
 #define bk_sheet_test bk_sheet_test_any
 #define bk_sheet_factor bk_sheet_factor_any
+#define bk_sheet_factor_times bk_sheet_factor_times_any
+#define bk_sheet_factor_shift bk_sheet_factor_shift_any
 #define bk_sheet_replay bk_sheet_replay_any
 #define bk_list bk_list_any
 

@@ -1,4 +1,4 @@
-//! Compares the engine with the second implementation: `cargo run --release [SEED..]`. The same seeds make the same cases; without any, the seed is 1.
+//! Compares the engine with the second implementation: `cargo run --release -p compare [SEED..]`. The same seeds make the same cases; without any, the seed is 1.
 //! It stops at the first difference with the whole input, and otherwise prints how many cases of each kind it compared; a kind that did not come up is
 //! an error.
 
@@ -11,6 +11,7 @@ mod old_layout;
 mod pairs;
 mod polynomials;
 mod random;
+mod reading;
 mod report;
 mod rows;
 mod series;
@@ -22,8 +23,19 @@ use std::process::exit;
 
 type Section = fn(&mut Random, &mut Report);
 
-const SECTIONS: [Section; 10] =
-    [documents::run, numbers::run, series::run, rows::run, pairs::run, sheets::run, extensions::run, old_layout::run, listings::run, demand_3::run];
+const SECTIONS: [Section; 11] = [
+    documents::run,
+    numbers::run,
+    series::run,
+    rows::run,
+    pairs::run,
+    sheets::run,
+    extensions::run,
+    old_layout::run,
+    listings::run,
+    demand_3::run,
+    reading::run,
+];
 
 fn seeds() -> Vec<u64> {
     let given: Vec<u64> = std::env::args().skip(1).map(|word| word.parse().expect("a seed is a number")).collect();

@@ -41,7 +41,7 @@ const ROWS: &[u32] = &[1, 2, 3, 4, 5, 6, 10];
 /// Not a call of its own: what the lines say that `list` writes, which is a refusal's number or a listing.
 pub const LINE: &str = "list's line";
 
-pub const OPERATIONS: [Operation; 22] = [
+pub const OPERATIONS: [Operation; 24] = [
     operation("sum", NUMBER),
     operation("difference", NUMBER),
     operation("product", NUMBER),
@@ -61,13 +61,15 @@ pub const OPERATIONS: [Operation; 22] = [
     operation("sheet extend", &[13, 14, 15]),
     operation("sheet test", &[]),
     operation("sheet factor", &[10, 13, 16]),
+    operation("sheet factor times", &[3, 5, 6, 10, 13, 16]),
+    operation("sheet factor shift", &[6, 10, 13, 16]),
     operation("sheet replay", &[5, 10]),
     operation("list", &[10]),
     operation(LINE, &[1, 2, 3, 4, 5, 6, 7, 8, 9]),
 ];
 
 /// Kinds of inputs: each must have come up.
-pub const KINDS: [&str; 53] = [
+pub const KINDS: [&str; 56] = [
     "document 01's examples",
     "the sheet of document 02's F-8",
     "every modulus from 0 to 66,000",
@@ -104,7 +106,10 @@ pub const KINDS: [&str; 53] = [
     "sheet: cut short",
     "sheet: shortened to fewer terms",
     "sheet: k raised over columns of zeros",
-    "sheet: a factor's part as a row polynomial",
+    "reading: a factor's rows stand in the sheet where the second implementation says",
+    "reading: every set of refusals at once",
+    "reading: the product's degree bound is 32",
+    "reading: a factor's part as a row polynomial",
     "extend: a right sheet, w is 0 or above N",
     "extend: a right sheet, w is k − 1",
     "extend: T − 1 words, any w",
@@ -198,7 +203,7 @@ impl Report {
         println!("\nCases of each kind among them:\n");
         for kind in KINDS {
             let count = self.kinds.get(kind).copied().unwrap_or(0);
-            println!("  {kind:<58} {count:>8}");
+            println!("  {kind:<80} {count:>8}");
             complete &= count > 0;
         }
         let calls = self.outcomes.iter().filter(|((name, _), _)| *name != LINE);

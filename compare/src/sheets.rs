@@ -1,11 +1,12 @@
-//! Factor sheets: opened, worked on in goes, read, and damaged word by word.
+//! Factor sheets: opened, worked on in goes, and damaged word by word.
 
 use crate::old_layout;
 use crate::polynomials::{self, Given};
 use crate::random::Random;
+use crate::reading;
 use crate::report::{engine, second, Called, Report};
-use bopkheul::{rows as engine_rows, sheet as e};
-use second::{rows as second_rows, sheet as s};
+use bopkheul::sheet as e;
+use second::sheet as s;
 
 #[derive(Clone, Copy)]
 enum Fault {
@@ -79,20 +80,6 @@ pub fn extend(report: &mut Report, sheet: &[u32], w: u32) -> Called<u32> {
 pub fn test(report: &mut Report, sheet: &[u32]) -> bool {
     let called = report.call("sheet test", String::new, &[], sheet, |o| Ok(e::test(o) as u32), |o| Ok(s::test(o) as u32));
     called.outcome == Ok(1)
-}
-
-/// Factor i, into outputs of 0 to 5 words.
-fn read(random: &mut Random, report: &mut Report, sheet: &[u32], i: u32) {
-    let room = random.pick(&[0, 3, 4, 4, 5]);
-    let out = random.junk(room);
-    report.call(
-        "sheet factor",
-        || format!("i {i} sheet {sheet:?}"),
-        &[sheet],
-        &out,
-        |o| engine(e::factor(sheet, i, o)),
-        |o| second(s::factor(sheet, i, o)),
-    );
 }
 
 /// A fresh sheet and perhaps some words more; T words are enough for it, and T − 1 are not.
@@ -194,27 +181,6 @@ fn replay(random: &mut Random, report: &mut Report, fresh: &[u32], calls: &Calls
     }
 }
 
-/// A factor's part, passed on to row operations where it stands.
-fn part(random: &mut Random, report: &mut Report, sheet: &[u32]) {
-    let mut found = [0; 4];
-    let i = random.below(sheet[4]);
-    e::factor(sheet, i, &mut found).expect("a sound sheet has its factors");
-    let [_, power, start, length] = found;
-    let rows = &sheet[start as usize..(start + length) as usize];
-    let (p, n, c) = (sheet[0], sheet[2], random.below(sheet[0]));
-    let out = random.junk(length as usize);
-    let input = || format!("p {p} d {} n {n} f {rows:?} c {c}", power - 1);
-    report.call(
-        "rows shift",
-        input,
-        &[rows],
-        &out,
-        |o| engine(engine_rows::shift(p, power - 1, n, rows, c, o)),
-        |o| second(second_rows::shift(p, power - 1, n, rows, c, o)),
-    );
-    report.kind("sheet: a factor's part as a row polynomial");
-}
-
 /// Where a word of a sheet stands.
 fn region(sheet: &[u32], at: usize) -> &'static str {
     let [_, d, n, k, _, roots, polynomial, factors, _, total] = sheet[..10] else { unreachable!("ten words") };
@@ -259,8 +225,7 @@ fn judge_changed(random: &mut Random, report: &mut Report, changed: &[u32]) -> b
     let w = random.below(changed.get(2).map_or(4, |n| n.wrapping_add(2)).max(1));
     let spoiled = extend(report, changed, w).outcome == Err((13, 0));
     report.expect(sound != spoiled, &format!("extend refuses 13 where test says no, and only there: {changed:?}"));
-    let i = random.below(4);
-    read(random, report, changed, i);
+    reading::any(random, report, changed);
     sound
 }
 
@@ -358,8 +323,7 @@ fn life_of_a_sheet(random: &mut Random, report: &mut Report, given: &Given, chan
     let sound = test(report, &fresh);
     report.expect(sound, &format!("an opened sheet is sound: {fresh:?}"));
     let sheet = several_goes(random, report, &fresh);
-    (0..=sheet[4]).for_each(|i| read(random, report, &sheet, i));
-    part(random, report, &sheet);
+    reading::factors(random, report, &sheet);
     for _ in 0..changes {
         change_a_word(random, report, &sheet);
     }

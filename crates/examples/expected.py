@@ -218,9 +218,8 @@ print("refused 10 10:",*[9]*9)
 opens(*three[:5],[9]*53)
 s=sheet(*three,4)+[9]
 print("done 4:",*s); print("sound")
-shifted=[9]*9
-rowshift(5,1,4,s[40:48],3,shifted)
-rowshift(5,1,4,[],3,shifted)
+part=s[40:48]; buf=[9]*9
+rowshift(5,1,4,part,3,buf);rowmul(5,1,0,4,part,[1,1,0,0],buf);rowshift(5,1,4,part,5,buf);say((16,0),0,None,buf)
 print("not sound"); print("not sound")
 f=[0]*32+[1]
 for D in (33,0,32): opens(7,D,1,f,[0],[9]*78)

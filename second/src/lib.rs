@@ -9,6 +9,7 @@
 //! | shift | weights from binomials | Horner over row polynomials |
 //! | powers of the roots | repeated division by Y − c | the order of f(Y + c), then multiplied back |
 //! | pair, factors | two-factor splits, for the factors along a tree, each by synthetic division | one linear system for each column, over all unknowns at once |
+//! | a factor's rows | a part of the sheet, by its place | the sheet taken apart, row after row |
 //! | soundness | splits once more and compares | the definitions: everything is multiplied out |
 //!
 //! Every operation has the arguments of the C interface (`include/bopkheul.h`), and answers `Ok(answer)` or `Err(refusal)`.

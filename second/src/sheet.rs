@@ -10,6 +10,7 @@ use crate::polynomial::{
     Polynomial,
 };
 use crate::refusal::{beyond, composite, judge, length, modulus_range, short, terms, unreduced, when, Answer, Refusal};
+use crate::rows;
 
 const HEADER: usize = 10;
 
@@ -236,16 +237,38 @@ pub fn extend(sheet: &mut [u32], w: u32) -> Answer {
     Ok(w)
 }
 
+/// A sheet that has factor i: rows 13 and 16.
+fn with_factor(sheet: &[u32], i: u32) -> Result<Sheet, Refusal> {
+    let read = sound(sheet).ok_or(spoiled())?;
+    judge(&[(16, &|| when(i as usize >= read.roots.len()))])?;
+    Ok(read)
+}
+
 /// Writes root, power, and start and length of the part that holds the rows of factor i, counted from 0; the answer is 4.
 pub fn factor(sheet: &[u32], i: u32, out: &mut [u32]) -> Answer {
-    let read = sound(sheet).ok_or(spoiled())?;
-    judge(&[(10, &|| short(out, 4)), (16, &|| when(i as usize >= read.roots.len()))])?;
+    judge(&[(10, &|| short(out, 4))])?;
+    let read = with_factor(sheet, i)?;
     let i = i as usize;
     let (root, power) = read.roots[i];
     let rows_before: usize = read.powers()[..i].iter().sum();
     let start = sheet[7] as usize + rows_before * read.n;
     out[..4].copy_from_slice(&[root, power, start as u32, power * read.n as u32]);
     Ok(4)
+}
+
+/// The rows of factor i below its leading 1, times g, of degree bound e: the factor is taken out of the sheet, its leading 1 off it, and what is left
+/// multiplied. The answer is the number of words written.
+pub fn factor_times(sheet: &[u32], i: u32, e: u32, g: &[u32], out: &mut [u32]) -> Answer {
+    let read = with_factor(sheet, i)?;
+    let lower = lower_words(&read.factors[i as usize]);
+    rows::product(read.p, read.roots[i as usize].1 - 1, e, read.n as u32, &lower, g, out)
+}
+
+/// The same rows at Y + c.
+pub fn factor_shift(sheet: &[u32], i: u32, c: u32, out: &mut [u32]) -> Answer {
+    let read = with_factor(sheet, i)?;
+    let lower = lower_words(&read.factors[i as usize]);
+    rows::shift(read.p, read.roots[i as usize].1 - 1, read.n as u32, &lower, c, out)
 }
 
 /// Makes the calls of a list: call l is lent the first lent[l] words and extends to w[l] terms. Its answer goes to two words: 0 and w, or the refusal's

@@ -89,6 +89,31 @@ fn a_sheet_of_three_roots() {
 }
 
 #[test]
+fn a_factor_is_read_in_the_order_of_the_numbers() {
+    let words = opened_cubic();
+    assert_eq!(sheet::factor(&words[..29], 3, &mut [0; 3]), refused(10, 4));
+    assert_eq!(sheet::factor(&words[..29], 3, &mut [0; 4]), refused(13, 0));
+    assert_eq!(sheet::factor(&words, 3, &mut [0; 4]), refused(16, 0));
+}
+
+/// Root 2's factor is Y + 5 + 4X.
+#[test]
+fn a_factor_passed_on() {
+    let mut words = opened_cubic();
+    sheet::extend(&mut words, 2).unwrap();
+    let mut out = [9; 5];
+    assert_eq!(sheet::factor_times(&words, 1, 1, &[0, 1, 1, 0], &mut out), Ok(4));
+    assert_eq!(out, [0, 5, 5, 4, 9]); // (5 + 4X) (Y + X)
+    assert_eq!(sheet::factor_shift(&words, 1, 6, &mut out[..3]), Ok(2));
+    assert_eq!(out, [5, 4, 5, 4, 9]);
+    assert_eq!(sheet::factor_times(&words[..29], 3, 33, &[7], &mut []), refused(13, 0));
+    assert_eq!(sheet::factor_times(&words, 3, 33, &[7], &mut []), refused(16, 0));
+    assert_eq!(sheet::factor_shift(&words, 3, 7, &mut []), refused(16, 0));
+    assert_eq!(sheet::factor_shift(&words, 1, 7, &mut []), refused(6, 2));
+    assert_eq!(sheet::factor_shift(&words, 1, 6, &mut []), refused(10, 2));
+}
+
+#[test]
 fn one_word_less() {
     let mut words = opened_cubic();
     assert_eq!(sheet::open(7, 3, 2, &CUBIC, &[1, 2, 4], &mut words[..29]), refused(10, 30));

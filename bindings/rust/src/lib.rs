@@ -1,8 +1,8 @@
-//! Weierstrass pairs and Hensel factors over F_p\[\[X\]\], by proved code: for every input the engine answers what its specification says, or refuses by
+//! Hensel factors and Weierstrass pairs of polynomials over F_p\[\[X\]\], by proved code: for every input the engine answers what its specification says, or refuses by
 //! a numbered rule and changes nothing.
 //!
-//! A series is `n` words, word `t` the coefficient of X^t. A row polynomial of degree bound `d` is `d + 1` series, row `j` the coefficient of Y^j,
-//! stored row after row. Words are below the prime modulus `p`, which is at most 65,535; `d` is at most 32 and `n` at most 256.
+//! A power series has `n` words, that at `t` being its coefficient of X^t. A row polynomial is the series at Y^0, Y^1, .. up to Y^d, one after the
+//! other; `d` is its degree bound. Words are below the prime modulus `p`, which is at most 65,535; `d` is at most 32 and `n` at most 256.
 //!
 //! [`Sheet`] owns its words; the modules' functions work in slices that the caller lends, allocate nothing, and leave words past the answer as they were.
 //!

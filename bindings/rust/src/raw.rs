@@ -30,6 +30,8 @@ extern "C" {
     pub fn bk_sheet_extend(sheet: Out, sheet_count: usize, w: u32) -> u64;
     pub fn bk_sheet_test(sheet: Words, sheet_count: usize) -> u64;
     pub fn bk_sheet_factor(sheet: Words, sheet_count: usize, i: u32, out: Out, out_count: usize) -> u64;
+    pub fn bk_sheet_factor_times(sheet: Words, sheet_count: usize, i: u32, e: u32, g: Words, g_count: usize, out: Out, out_count: usize) -> u64;
+    pub fn bk_sheet_factor_shift(sheet: Words, sheet_count: usize, i: u32, c: u32, out: Out, out_count: usize) -> u64;
     pub fn bk_sheet_replay(
         sheet: Out,
         sheet_count: usize,

@@ -18,7 +18,9 @@
 //! # Ok::<(), bopkheul::Refusal>(())
 //! ```
 
-use crate::raw::{answer, bk_sheet_extend, bk_sheet_factor, bk_sheet_open, bk_sheet_replay, bk_sheet_test};
+use crate::raw::{
+    answer, bk_sheet_extend, bk_sheet_factor, bk_sheet_factor_shift, bk_sheet_factor_times, bk_sheet_open, bk_sheet_replay, bk_sheet_test,
+};
 use crate::{Answer, Refusal};
 use std::error::Error;
 use std::fmt;
@@ -53,10 +55,34 @@ pub fn test(sheet: &[u32]) -> bool {
 ///
 /// # Errors
 ///
-/// Refused by 13, 10 or 16, in this order.
+/// Refused by 10, 13 or 16.
 pub fn factor(sheet: &[u32], i: u32, out: &mut [u32]) -> Answer {
     // SAFETY: each pointer goes with the count of its slice, and `out` does not overlap the sheet.
     answer(unsafe { bk_sheet_factor(sheet.as_ptr(), sheet.len(), i, out.as_mut_ptr(), out.len()) })
+}
+
+/// Writes the product of the rows of factor `i`, counted from 0, with g, of degree bound `e`. The rows go to the product where they stand in the sheet, as a
+/// polynomial of degree bound one below the power: the leading 1 is not among them. The answer is the number of words written.
+///
+/// # Errors
+///
+/// Refused by 13 or 16, and then as [`rows::product`](crate::rows::product): by 3, 5, 6 or 10. Positions in the detail of 6 are counted from the first
+/// word of the factor's rows.
+pub fn factor_times(sheet: &[u32], i: u32, e: u32, g: &[u32], out: &mut [u32]) -> Answer {
+    // SAFETY: each pointer goes with the count of its slice, and `out` overlaps neither input.
+    answer(unsafe { bk_sheet_factor_times(sheet.as_ptr(), sheet.len(), i, e, g.as_ptr(), g.len(), out.as_mut_ptr(), out.len()) })
+}
+
+/// Writes the rows of factor `i`, counted from 0, at Y + c. They go to the shift as they go to the product in [`factor_times`], and as many words are
+/// written; the answer is their number.
+///
+/// # Errors
+///
+/// Refused by 13 or 16, and then as [`rows::shift`](crate::rows::shift): by 6 or 10. The position of `c` in the detail of 6 is the number of words of the
+/// factor's rows.
+pub fn factor_shift(sheet: &[u32], i: u32, c: u32, out: &mut [u32]) -> Answer {
+    // SAFETY: each pointer goes with the count of its slice, and `out` does not overlap the sheet.
+    answer(unsafe { bk_sheet_factor_shift(sheet.as_ptr(), sheet.len(), i, c, out.as_mut_ptr(), out.len()) })
 }
 
 /// Makes a list of extend calls: call `l` is lent the first `lent[l]` words and extends to `w[l]` terms. Two words are written for each call: 0 and its
@@ -179,6 +205,34 @@ impl Sheet {
         let [root, power, start, length] = found;
         let (start, length) = (start as usize, length as usize);
         Ok(Factor { root, power, rows: &self.words[start..start + length] })
+    }
+
+    /// Writes the product of factor `i`'s rows below the leading 1 with g, of degree bound `e`; the answer is the number of words written.
+    ///
+    /// ```
+    /// let mut sheet = bopkheul::Sheet::open(7, 2, 3, &[6, 6, 0, 0, 0, 0, 1, 0, 0], &[1, 6])?;
+    /// sheet.extend(3)?;
+    /// let mut out = [0; 6];
+    /// // (6 + 3X + X²) (Y + X)
+    /// assert_eq!(sheet.factor_times(0, 1, &[0, 1, 0, 1, 0, 0], &mut out)?, 6);
+    /// assert_eq!(out, [0, 6, 3, 6, 3, 1]);
+    /// # Ok::<(), bopkheul::Refusal>(())
+    /// ```
+    ///
+    /// # Errors
+    ///
+    /// Refused by 16, or as [`rows::product`](crate::rows::product) by 3, 5, 6 or 10.
+    pub fn factor_times(&self, i: u32, e: u32, g: &[u32], out: &mut [u32]) -> Answer {
+        factor_times(&self.words, i, e, g, out)
+    }
+
+    /// Writes factor `i`'s rows below the leading 1 at Y + c; the answer is the number of words written, which is that of the rows.
+    ///
+    /// # Errors
+    ///
+    /// Refused by 16, or as [`rows::shift`](crate::rows::shift) by 6 or 10.
+    pub fn factor_shift(&self, i: u32, c: u32, out: &mut [u32]) -> Answer {
+        factor_shift(&self.words, i, c, out)
     }
 
     /// p.

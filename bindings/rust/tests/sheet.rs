@@ -2,6 +2,7 @@
 
 use bopkheul::{sheet, Factor, FromWordsError, Kind, Refusal, Sheet};
 use std::panic::catch_unwind;
+use std::ptr;
 
 /// Y³ + Y² + XY + X = (Y² + X) (Y + 1) modulo 2, with three columns, two of them worked: 10 + 2 · 2 + 7 · 3 words.
 const F: [u32; 12] = [0, 1, 0, 0, 1, 0, 1, 0, 0, 1, 0, 0];
@@ -52,6 +53,61 @@ fn factors_and_their_rows() {
     assert_eq!(first.row(1), [0, 0, 0]);
     assert_eq!(sheet.factor(1), Ok(Factor { root: 1, power: 1, rows: &[1, 0, 0] }));
     assert_eq!(sheet.factor(2).map_err(Refusal::kind), Err(Kind::NoFactor));
+}
+
+/// A factor's rows are words of the sheet itself, not a copy: they stand where the engine says.
+#[test]
+fn rows_stand_in_the_sheet() {
+    let sheet = worked();
+    for (i, from, to) in [(0, 26, 32), (1, 32, 35)] {
+        let mut found = [0; 4];
+        assert_eq!(sheet::factor(sheet.words(), i, &mut found), Ok(4));
+        assert_eq!(found[2..], [from, to - from]);
+        assert!(ptr::eq(sheet.factor(i).expect("there are two").rows, &sheet.words()[from as usize..to as usize]));
+    }
+}
+
+#[test]
+fn a_factor_is_read_in_the_order_of_the_numbers() {
+    let sheet = worked();
+    let (mut short, mut out) = ([9; 3], [9; 4]);
+    let spoiled = &sheet.words()[..34];
+    assert_eq!(sheet::factor(spoiled, 2, &mut short), Err(Refusal { number: 10, detail: 4 }));
+    assert_eq!(sheet::factor(spoiled, 2, &mut out), Err(Refusal { number: 13, detail: 0 }));
+    assert_eq!(sheet::factor(sheet.words(), 2, &mut out), Err(Refusal { number: 16, detail: 0 }));
+    assert_eq!((short, out), ([9; 3], [9; 4]));
+}
+
+/// The rows of Y² + X below the leading 1 are X and 0.
+#[test]
+fn a_factor_passed_on() {
+    let sheet = worked();
+    let mut out = [9; 10];
+    // X · (Y + 1 + X)
+    assert_eq!(sheet.factor_times(0, 1, &[1, 1, 0, 1, 0, 0], &mut out), Ok(9));
+    assert_eq!(out, [0, 1, 1, 0, 1, 0, 0, 0, 0, 9]);
+    assert_eq!(sheet.factor_shift(0, 1, &mut out), Ok(6));
+    assert_eq!(out, [0, 1, 0, 0, 0, 0, 0, 0, 0, 9]);
+}
+
+#[test]
+fn what_a_factor_passed_on_is_refused_by() {
+    let sheet = worked();
+    let spoiled = &sheet.words()[..34];
+    let refused = |number, detail| Err(Refusal { number, detail });
+    let mut out = [9; 5];
+    let g = [1, 1, 0, 2]; // a word too many for degree bound 0, and the last is not below 2
+    assert_eq!(sheet::factor_times(spoiled, 2, 33, &g, &mut out), refused(13, 0));
+    assert_eq!(sheet.factor_times(2, 33, &g, &mut out), refused(16, 0));
+    assert_eq!(sheet.factor_times(0, 32, &g, &mut out), refused(3, 0));
+    assert_eq!(sheet.factor_times(0, 0, &g, &mut out), refused(5, 0));
+    assert_eq!(sheet.factor_times(0, 0, &g[1..], &mut out), refused(6, 8));
+    assert_eq!(sheet.factor_times(0, 0, &g[..3], &mut out), refused(10, 6));
+    assert_eq!(sheet::factor_shift(spoiled, 2, 2, &mut out), refused(13, 0));
+    assert_eq!(sheet.factor_shift(2, 2, &mut out), refused(16, 0));
+    assert_eq!(sheet.factor_shift(0, 2, &mut out), refused(6, 6));
+    assert_eq!(sheet.factor_shift(0, 1, &mut out), refused(10, 6));
+    assert_eq!(out, [9; 5]);
 }
 
 /// Also where an index times the columns would wrap round to a row that is there: 2^63 times 2 is 0.

@@ -1,13 +1,3 @@
 pub mod Sums
-pub mod Ring
-pub mod Series
-pub mod Poly
-pub mod Split
-pub mod Solution
-pub mod Multiplicity
-pub mod Columns
-pub mod Lift
-pub mod Chain
-pub mod Shift
-pub mod Fp
-pub mod Bridge
+pub mod Prime
+pub mod internal

@@ -1,56 +1,8 @@
 -- Plain sums of natural numbers.
 --   sumTo n f    f 0 + f 1 + .. + f (n − 1)
 -- Assumes nothing.
-use Prim.Native.Nat.{ℕ, zero, suc, _+_, _-_, _*_, _≤_, _<_}
-use native.Mathlib.Nat.{add-zero, add-suc}
-use native.Mathlib.Omega.{arith}
-use mathlib.Core.Path.{_≡_, refl, sym, _∙_, ap}
+use Prim.Native.Nat.{ℕ, zero, suc, _+_}
 
 unfoldable pub sumTo : ℕ → (ℕ → ℕ) → ℕ
 sumTo zero f = 0
 sumTo (suc n) f = sumTo n f + f n
-
-pub sumTo-zero : (f : ℕ → ℕ) → sumTo zero f ≡ 0
-unfolding sumTo
-sumTo-zero f = refl
-
-pub sumTo-suc : (n : ℕ) (f : ℕ → ℕ) → sumTo (suc n) f ≡ sumTo n f + f n
-unfolding sumTo
-sumTo-suc n f = refl
-
--- the first summand taken off
-pub sumTo-front : (n : ℕ) (f : ℕ → ℕ) → sumTo (suc n) f ≡ f zero + sumTo n (λ i. f (suc i))
-sumTo-front zero f = omega (arith, sumTo-suc zero f, sumTo-zero f, sumTo-zero (λ i. f (suc i)))
-sumTo-front (suc n) f = omega (arith, sumTo-suc (suc n) f, sumTo-front n f, sumTo-suc n (λ i. f (suc i)))
-
--- a sum looks only at what is below its bound
-pub sumTo-ext : (n : ℕ) {f g : ℕ → ℕ} → ((i : ℕ) → i < n → f i ≡ g i) → sumTo n f ≡ sumTo n g
-sumTo-ext zero {f} {g} h = sumTo-zero f ∙ sym (sumTo-zero g)
-sumTo-ext (suc n) {f} {g} h = rw (sumTo-suc n f, sumTo-suc n g, sumTo-ext n {f = f} {g = g} (λ i l. h i (omega arith)), h n (omega arith))
-
-pub sumTo-bound : (n b : ℕ) (f : ℕ → ℕ) → ((i : ℕ) → i < n → f i ≤ b) → sumTo n f ≤ n * b
-sumTo-bound zero b f h = omega (arith, sumTo-zero f)
-sumTo-bound (suc n) b f h = omega (arith, sumTo-suc n f, sumTo-bound n b f (λ i l. h i (omega arith)), h n (omega arith))
-
-pub sumTo-zeros : (n : ℕ) (f : ℕ → ℕ) → ((i : ℕ) → i < n → f i ≡ 0) → sumTo n f ≡ 0
-sumTo-zeros n f h = let l = sumTo-bound n 0 f (λ i g. let z = h i g in omega arith) in omega arith
-
-pub sumTo-add : (n : ℕ) (f g : ℕ → ℕ) → sumTo n (λ i. f i + g i) ≡ sumTo n f + sumTo n g
-sumTo-add zero f g = omega (arith, sumTo-zero f, sumTo-zero g, sumTo-zero (λ i. f i + g i))
-sumTo-add (suc n) f g = omega (arith, sumTo-suc n f, sumTo-suc n g, sumTo-suc n (λ i. f i + g i), sumTo-add n f g)
-
--- double sums may be exchanged
-pub sumTo-swap : (n m : ℕ) (f : ℕ → ℕ → ℕ) → sumTo n (λ i. sumTo m (f i)) ≡ sumTo m (λ j. sumTo n (λ i. f i j))
-sumTo-swap zero m f = sumTo-zero (λ i. sumTo m (f i)) ∙ sym (sumTo-zeros m (λ j. sumTo zero (λ i. f i j)) (λ j l. sumTo-zero (λ i. f i j)))
-sumTo-swap (suc n) m f =
-    sumTo-suc n (λ i. sumTo m (f i)) ∙ ap (λ x. x + sumTo m (f n)) (sumTo-swap n m f) ∙ sym (sumTo-add m (λ j. sumTo n (λ i. f i j)) (f n))
-    ∙ sumTo-ext m (λ j l. sym (sumTo-suc n (λ i. f i j)))
-
-pub sumTo-append : (n m : ℕ) (f : ℕ → ℕ) → sumTo (n + m) f ≡ sumTo n f + sumTo m (λ i. f (n + i))
-sumTo-append n zero f = rw (sumTo-zero (λ i. f (n + i)), add-zero n, add-zero (sumTo n f))
-sumTo-append n (suc m) f =
-    rw (add-suc n m) (omega (arith, sumTo-suc (n + m) f, sumTo-append n m f, sumTo-suc m (λ i. f (n + i))))
-
--- a sum of fewer is at most the sum of more
-pub sumTo-mono : (n k : ℕ) (f : ℕ → ℕ) → n ≤ k → sumTo n f ≤ sumTo k f
-sumTo-mono n k f l = let e : n + (k - n) ≡ k = omega arith in omega (arith, sumTo-append n (k - n) f, ap (λ x. sumTo x f) e)

@@ -26,7 +26,7 @@ use Rattle.sheet.specs.Sheet.{Sound, Given, Holds}
 use Rattle.open.specs.Open.{needed, openVerdict, OpenDone, Opened}
 use Rattle.extend.specs.Extend.{extendVerdict, ExtendDone, Extended}
 use Rattle.calls.specs.Calls.{Call, Run, done, call, countAnswer, countNext, countAnswers, countTerms, History, worked, Kept, Agree, Demand3}
-use Rattle.sheet.proofs.ContentLaws.{contentOf}
+use Rattle.sheet.specs.internal.Content.{contentOf}
 use Rattle.sheet.proofs.SheetsLaws.{sound-good, end-ext}
 use Rattle.sheet.proofs.UniqueLaws.{good-lists, good-polynomials, holds-unique}
 use Rattle.sheet.proofs.HoldsLaws.{holds-ext}
@@ -46,19 +46,19 @@ module _ (T N K n w : ℕ) where
     count-beyond : (w ≡ 0) ⊎ (N < w) → counted ≡ refused 14 0
     unfolding countAnswer
     count-beyond (inl e) = rw (le-ltb n T long, lt-ltb w 1 (omega arith))
-    count-beyond (inr l) = rw (le-ltb n T long, lt-ltb N w l) (go (ltb w 1))
+    count-beyond (inr l) = rw (le-ltb n T long, lt-ltb N w l) (go (ltb w 1) _)
       where
-        go : (b : Bool) → choose (b || true) (refused 14 0) (choose (ltb w K) (refused 15 0) (accepted w)) ≡ refused 14 0
-        go true = refl
-        go false = refl
+        go : (b : Bool) (next : Outcome ℕ) → choose (b || true) (refused 14 0) next ≡ refused 14 0
+        go true next = refl
+        go false next = refl
 
     count-behind : 1 ≤ w → w ≤ N → w < K → counted ≡ refused 15 0
     unfolding countAnswer
-    count-behind a b l = rw (le-ltb n T long, le-ltb w 1 a, le-ltb N w b, lt-ltb w K l)
+    count-behind a b l = simp (le-ltb n T long, le-ltb w 1 a, le-ltb N w b, lt-ltb w K l)
 
     count-reached : 1 ≤ w → w ≤ N → K ≤ w → counted ≡ accepted w
     unfolding countAnswer
-    count-reached a b l = rw (le-ltb n T long, le-ltb w 1 a, le-ltb N w b, le-ltb w K l)
+    count-reached a b l = simp (le-ltb n T long, le-ltb w 1 a, le-ltb N w b, le-ltb w K l)
 
 module _ (g : Given) (T : ℕ) (start : List ℕ) where
   -- what stands between the calls

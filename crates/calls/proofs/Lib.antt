@@ -1,2 +1,3 @@
 pub mod Demand3Laws
 pub mod ReplayLaws
+pub mod OneLaws

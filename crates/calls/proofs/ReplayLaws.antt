@@ -1,34 +1,34 @@
 -- What `replay` checks, and the calls that it makes one after the other.
 --   calls-unlike, calls-beyond, calls-short, calls-pass   its verdict, case by case
 --   calls-lent         what the checks say of the calls where they pass
+--   call-long          a call leaves as many words as it found
 --   made-none, made-more, made-all   no call, one more, and all
 --   made-done          with all calls made: what demand 3 says
 --   replay-refused, replay-done   what replay answers and leaves
 -- Assumes nothing.
-use Prim.Native.Nat.{ℕ, suc, _+_, _-_, _*_, _≤_, _<_}
+use Prim.Native.Nat.{ℕ, _+_, _-_, _*_, _≤_, _<_}
 use native.Mathlib.Numerals.{add-one}
 use native.Mathlib.Omega.{arith}
 use mathlib.Core.Path.{_≡_, refl, sym, _∙_, ap, ap₂, subst}
 use mathlib.Core.Logic.{_≢_}
-use mathlib.Core.Bool.{Bool, true, false, not}
+use mathlib.Core.Bool.{true, false, not}
 use mathlib.Core.List.{List, [], _∷_, _++_, append-nil, append-assoc}
 use borrow.Author.Tests.{eq-eqb, ne-eqb, lt-ltb, le-ltb, ltb-false, leb-true, not-false, eqb-true}
 use lib.Dec.{ltb, leb, eqb}
-use lib.ListN.{length, take, drop, set, length-append, length-take, length-drop}
+use lib.ListN.{length, take, drop, set, length-append, length-drop}
 use lib.Seq.{length-take-le}
 use Rattle.numbers.specs.Words.{word, lowWord, over}
 use Rattle.numbers.specs.Refusals.{check, judge, refusal, Outcome, accepted, refused, result, Leaves}
 use Rattle.numbers.specs.declared.refusal.Refusal.{Refusal}
 use Rattle.numbers.specs.declared.refusal.Verdict.{Verdict}
 use Rattle.numbers.specs.declared.refusal.Verdict.the-variants.{Pass, Refuse}
-use Rattle.numbers.proofs.WordsLaws.{Writing, writing-none, writing-store}
+use Rattle.numbers.proofs.WordsLaws.{Writing, writing-store}
 use Rattle.numbers.proofs.TestsLaws.{allTo-at}
 use Rattle.numbers.proofs.RefusalsLaws.{take-check, skip-check, none-judged, pass-check}
-use Rattle.sheet.specs.Sheet.{Given}
-use Rattle.open.specs.Open.{Opened}
 use Rattle.extend.specs.Extend.{Extended, extendVerdict, ExtendDone}
 use Rattle.calls.specs.Calls.{Call, Run, done, call}
-use Rattle.calls.specs.Replay.{callsTo, answerPair, answerWords, lendable, replayVerdict, Counted, ReplayDone, ReplayLeaves, Replayed, putAnswer, CallsMade}
+use Rattle.calls.specs.Replay.{callsTo, answerPair, answerWords, lendable, replayVerdict, ReplayDone, ReplayLeaves, Replayed}
+use Rattle.calls.specs.internal.Making.{putAnswer, CallsMade}
 use Rattle.calls.proofs.Demand3Laws.{demand3-kept}
 
 module _ (size : ℕ) (lent goals : List ℕ) (room : ℕ) where
@@ -96,6 +96,12 @@ extended-long old w a new h = go (extendVerdict old w) refl
     go Pass e = subst (λ v. Leaves v (ExtendDone old w new) old new) e (h .leaves) .same-length
     go (Refuse r) e = ap length (subst (λ v. Leaves v (ExtendDone old w new) old new) e (h .leaves))
 
+-- a call leaves as many words as it found
+pub call-long : (s part : List ℕ) (n w : ℕ) (a : Outcome ℕ) → n ≤ length s → Extended (take n s) w a part → length (part ++ drop n s) ≡ length s
+call-long s part n w a l x =
+    let long : length part ≡ n = extended-long (take n s) w a part x ∙ length-take-le n s l in
+    length-append part (drop n s) ∙ ap₂ _+_ long (length-drop n s) ∙ (let z : n + (length s - n) ≡ length s = omega arith in z)
+
 -- storing an answer is writing two words more
 put-writing : (xs s e : List ℕ) (a : Outcome ℕ) (i : ℕ) → Writing xs s e → length xs ≡ 2 * i → 2 * i + 2 ≤ length s → Writing (xs ++ answerPair a) s (putAnswer a i e)
 put-writing xs s e a i h n fits = go a
@@ -121,7 +127,6 @@ unfolding callsTo
 made-more n lent goals start last old new h a part new′ fits roomy x put =
     let call : Call = record { lent = word lent n; goal = word goals n } in
     let s = h .sheet in
-    let long : length part ≡ word lent n = extended-long (take (word lent n) last) (word goals n) a part x ∙ length-take-le (word lent n) last (omega arith) in
     let w : Writing (answerWords (h .answers) ++ answerPair a) old new′ = subst (Writing (answerWords (h .answers) ++ answerPair a) old) (sym put) (put-writing (answerWords (h .answers)) old new a n (record { is = h .words; long = h .long }) (h .size) roomy) in
     record {
       answers = h .answers ++ (a ∷ []);
@@ -129,7 +134,7 @@ made-more n lent goals start last old new h a part new′ fits roomy x put =
       words = w .is ∙ ap (λ l. over l old) (sym (words-more (h .answers) a));
       size = ap length (words-more (h .answers) a) ∙ length-append (answerWords (h .answers)) (answerPair a) ∙ ap₂ _+_ (h .size) (pair-two a) ∙ (let z : 2 * n + 2 ≡ 2 * (n + 1) = omega arith in z);
       long = w .long;
-      sheet = length-append part (drop (word lent n) last) ∙ ap₂ _+_ long (length-drop (word lent n) last) ∙ (let z : word lent n + (length last - word lent n) ≡ length start = omega arith in z);
+      sheet = call-long last part (word lent n) (word goals n) a (omega arith) x ∙ s;
     }
 
 pub made-all : (n m : ℕ) (lent goals start last old new : List ℕ) → n ≡ m → CallsMade n lent goals start last old new → CallsMade m lent goals start last old new
@@ -140,9 +145,7 @@ made-done lent goals start last old new h = record {
   answers = h .answers;
   run = h .run;
   words = h .words;
-  counted = λ g before T o.
-      let k = demand3-kept (record { given = g; before = before; T = T; start = start; opened = o; calls = callsTo (length lent) lent goals; answers = h .answers; last = last; run = h .run }) in
-      record { answers = h .words ∙ ap (λ l. over (answerWords l) old) (k .answers); holds = k .holds; only = k .only; rest = k .rest };
+  kept = λ g before T o. demand3-kept (record { given = g; before = before; T = T; start = start; opened = o; calls = callsTo (length lent) lent goals; answers = h .answers; last = last; run = h .run });
 }
 
 -- what replay answers and leaves, after its verdict

@@ -7,7 +7,8 @@ ghost use Prim.Native.Nat.{ℕ, _+_, _*_, _≤_, _<_};
 ghost use lib.ListN.{length, set};
 ghost use Rattle.numbers.specs.Words.{word, lowWord};
 ghost use Rattle.numbers.specs.Refusals.{outcome};
-ghost use Rattle.calls.specs.Replay.{lendable, replayVerdict, Replayed, putAnswer, CallsMade};
+ghost use Rattle.calls.specs.Replay.{lendable, replayVerdict, Replayed};
+ghost use Rattle.calls.specs.internal.Making.{putAnswer, CallsMade};
 
 // What 32 bits keep of twice n.
 fn twice(n: usize) -> u32

@@ -10,21 +10,14 @@ ghost use Rattle.layout.specs.Layout.{count};
 ghost use Rattle.sheet.specs.Sheet.{Sound};
 ghost use Rattle.capi.specs.Factor.{factorChecks, factorWords};
 
-// Refusals 13, 10 and 16.
+// Refusals 10, 13 and 16.
 pub fn check_factor(sheet: &[u32], i: u32, room: usize) -> Verdict
     ensures { λ r. ⌜ r ≡ judge (factorChecks (now (sheet .entry)) i room) ⌝ }
 {
-    if !sheet::test(sheet) {
-        return refuse(13, 0);
-    }
     if room < 4 {
         return refuse(10, 4);
     }
-    let h = layout::read_header(sheet);
-    if h.count <= i as usize {
-        return refuse(16, 0);
-    }
-    Verdict::Pass
+    sheet::check_read(sheet, i)
 }
 
 // Root, power, and start and length of the rows.

@@ -14,8 +14,11 @@ ghost use Rattle.numbers.specs.Refusals.{judge, outcome, refused, result, writt
 ghost use Rattle.residues.specs.Number.{numberOutcome, sumOf, differenceOf, productOf, inverseNumber};
 ghost use Rattle.series.specs.Series.{seriesChecks, inverseChecks, quotientChecks, sums, differences, product, quotient};
 ghost use Rattle.rows.specs.Rows.{rowsChecks, productChecks, shiftChecks, rowProduct, rowShift};
-ghost use Rattle.pair.specs.Pair.{pairChecks, continueChecks, order, PairDone};
-ghost use Rattle.sheet.specs.Sheet.{Given, soundTest, givenOf};
+ghost use Rattle.pair.specs.Paired.{pairChecks, continueChecks, PairDone};
+ghost use Rattle.pair.specs.Pair.{order};
+ghost use Rattle.sheet.specs.Sheet.{Given, givenOf};
+ghost use Rattle.sheet.specs.Test.{soundTest};
+ghost use Rattle.sheet.specs.Reading.{timesChecks, timesSize, timesWords, shiftedChecks, shiftedSize, shiftedWords};
 ghost use Rattle.open.specs.Open.{openVerdict, needed, OpenDone};
 ghost use Rattle.extend.specs.Extend.{extendVerdict, ExtendDone};
 ghost use Rattle.calls.specs.Replay.{callsTo, replayVerdict, ReplayLeaves};
@@ -246,6 +249,32 @@ pub extern "C" fn bk_sheet_factor(sheet: &[u32], i: u32, out: &mut [u32]) -> u64
     }
     factor::put_factor(sheet, i, out);
     4
+}
+
+// The rows of factor i, times g, of degree bound e.
+#[no_mangle]
+pub extern "C" fn bk_sheet_factor_times(
+    sheet: &[u32],
+    i: u32,
+    e: u32,
+    g: &[u32],
+    out: &mut [u32],
+) -> u64
+    ensures answer { λ r. ⌜ r ≡ packed (result (judge (timesChecks (now (sheet .entry)) i e (now (g .entry)) (length (now (out .entry))))) (timesSize (now (sheet .entry)) i e)) ⌝ }
+    ensures words { λ _. ⌜ now (out .exit) ≡ written (judge (timesChecks (now (sheet .entry)) i e (now (g .entry)) (length (now (out .entry)))))
+        (over (timesWords (now (sheet .entry)) i e (now (g .entry))) (now (out .entry))) (now (out .entry)) ⌝ }
+{
+    pack(sheet::factor_times(sheet, i, e, g, out))
+}
+
+// The rows of factor i, at Y + c.
+#[no_mangle]
+pub extern "C" fn bk_sheet_factor_shift(sheet: &[u32], i: u32, c: u32, out: &mut [u32]) -> u64
+    ensures answer { λ r. ⌜ r ≡ packed (result (judge (shiftedChecks (now (sheet .entry)) i c (length (now (out .entry))))) (shiftedSize (now (sheet .entry)) i)) ⌝ }
+    ensures words { λ _. ⌜ now (out .exit) ≡ written (judge (shiftedChecks (now (sheet .entry)) i c (length (now (out .entry)))))
+        (over (shiftedWords (now (sheet .entry)) i c) (now (out .entry))) (now (out .entry)) ⌝ }
+{
+    pack(sheet::factor_shift(sheet, i, c, out))
 }
 
 // A list of extend calls: call i is lent the first `lent[i]` words of the sheet and extends to `w[i]` terms. Two words are written for each call.

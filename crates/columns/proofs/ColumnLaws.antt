@@ -9,12 +9,13 @@ use native.Mathlib.Numerals.{add-one}
 use native.Mathlib.Omega.{arith}
 use lib.ListN.{length, take, drop, set, length-append, length-drop, length-set, drop-of-length-le, List·getD-append, List·getD-eq-default}
 use lib.Seq.{ext-getD, getD-append-add, getD-drop, getD-take, getD-set-same, getD-set-other, set-getD, length-take-le, take-length, take-suc, take-suc-set, drop-set-lt, drop-cons, take-at, drop-at, take-append-add, drop-append-add, append-snoc}
-use Rattle.numbers.specs.Words.{word, tabulate, over, AllBelow}
+use Rattle.numbers.specs.Words.{word, tabulate, over}
+use Rattle.numbers.specs.internal.Facts.{AllBelow}
 use Rattle.rows.specs.Rows.{rowsOf}
 use Rattle.numbers.proofs.WordsLaws.{lt-or-ge, length-tabulate, word-tabulate, tabulate-below, length-over, over-whole, Writing, writing-next, over-past, writing-past, from, from-is, length-from, from-below}
-use Rattle.numbers.specs.Limits.{modulusBound}
+use Rattle.numbers.specs.internal.Limits.{modulusBound}
 use Rattle.rows.proofs.RowsLaws.{row-fits}
-use Rattle.columns.specs.Column.{hornerWord, hornerWords, lessMultiple, digits, lineTimes, undigits, ColumnStored, middleSum, firstOnly}
+use Rattle.columns.specs.internal.Column.{hornerWord, hornerWords, lessMultiple, digits, lineTimes, undigits, ColumnStored, middleSum, firstOnly}
 
 -- a number below 2^24 times a word
 pub product-fits : (a b : ℕ) → a < modulusBound → b < 4294967296 → a * b ≤ 16777215 * 4294967295

@@ -9,18 +9,24 @@ use native.Mathlib.Numerals.{add-one}
 use native.Mathlib.Omega.{arith}
 use lib.ListN.{length, take, drop, length-drop, List·getD-eq-default}
 use lib.Seq.{getD-drop, length-take-le, take-at, drop-at}
-use Rattle.algebra.specs.Sums.{sumTo, sumTo-suc, sumTo-front, sumTo-ext, sumTo-add}
-use Rattle.algebra.specs.Ring.{CommRing, ring, units, add-assoc, add-comm, add-zero, zero-add, neg-add, neg-neg, mul-assoc, mul-one, pow-zero, pow-suc}
-use Rattle.algebra.specs.Series.{Series, conv, tail, add-at, neg-at, zero-at, mul-at}
-use Rattle.algebra.specs.Poly.{const, lin, linPow, Below, horner, horner-zero, horner-suc, eval, quot, div, const-coeff-zero, const-coeff-suc, const-mul, lin-mul-zero, lin-mul-suc, product-value}
-use Rattle.algebra.specs.Fp.{Fp, rem, rem-add, rem-mul, rem-mod}
-use Rattle.algebra.specs.Bridge.{rem-eq, rem-zero, rem-one, neg-rem, sub-rem, conv-rem}
-use Rattle.numbers.specs.Words.{word, over, AllBelow}
+use Rattle.algebra.specs.Sums.{sumTo}
+use Rattle.algebra.proofs.SumsLaws.{sumTo-suc, sumTo-front, sumTo-ext, sumTo-add}
+use Rattle.algebra.specs.internal.Ring.{CommRing, ring, units, add-assoc, add-comm, add-zero, zero-add, neg-add, mul-assoc, mul-one}
+use Rattle.algebra.proofs.RingLaws.{neg-neg, pow-zero, pow-suc}
+use Rattle.algebra.specs.internal.Series.{Series, conv, tail}
+use Rattle.algebra.proofs.SeriesLaws.{add-at, neg-at, zero-at, mul-at}
+use Rattle.algebra.specs.internal.Poly.{const, lin, linPow}
+use Rattle.algebra.proofs.PolyLaws.{Below, horner, horner-zero, horner-suc, eval, quot, div, const-coeff-zero, const-coeff-suc, const-mul, lin-mul-zero, lin-mul-suc, product-value}
+use Rattle.algebra.specs.internal.Fp.{Fp, rem}
+use Rattle.algebra.proofs.FpLaws.{rem-add, rem-mul, rem-mod}
+use Rattle.algebra.proofs.BridgeLaws.{rem-eq, rem-zero, rem-one, neg-rem, sub-rem, conv-rem}
+use Rattle.numbers.specs.Words.{word, over}
+use Rattle.numbers.specs.internal.Facts.{AllBelow}
 use Rattle.numbers.proofs.WordsLaws.{lt-or-ge, length-over}
 use Rattle.rows.specs.Rows.{mul, linePower}
 use Rattle.rows.proofs.ShiftLaws.{root-power}
-use Rattle.rows.specs.Passes.{passSum}
-use Rattle.columns.specs.Column.{hornerWord, hornerWords, lessMultiple, digits, lineTimes, undigits, times, lowPart, highPart, Solves}
+use Rattle.rows.specs.internal.Passes.{passSum}
+use Rattle.columns.specs.internal.Column.{hornerWord, hornerWords, lessMultiple, digits, lineTimes, undigits, times, lowPart, highPart, Solves}
 use Rattle.columns.proofs.ColumnLaws.{horner-word-suc, horner-word-none, horner-word-rest, horner-words-at, line-words-at, less-words-at, over-below, length-horner, length-undigits, undigits-below, undigits-cons, undigits-none, length-left, length-digits, digits-below, digits-zero, digits-suc, digitOf, leftOf}
 
 -- the identity behind a step, over ring variables

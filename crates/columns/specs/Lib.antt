@@ -1,1 +1,1 @@
-pub mod Column
+pub mod internal

@@ -6,12 +6,14 @@ use rows::kernel::passes;
 ghost use mathlib.Core.Path.{_≡_};
 ghost use Prim.Native.Nat.{_+_, _-_, _*_, _%_, _≤_, _<_};
 ghost use lib.ListN.{length, take};
-ghost use Rattle.algebra.specs.Fp.{Prime};
+ghost use Rattle.algebra.specs.Prime.{Prime};
 ghost use Rattle.numbers.specs.Divisor.{inverseOf};
-ghost use Rattle.numbers.specs.Words.{word, over, tabulate, AllBelow};
-ghost use Rattle.numbers.specs.Limits.{modulusBound, mostRows, largestWidth};
+ghost use Rattle.numbers.specs.Words.{word, over, tabulate};
+ghost use Rattle.numbers.specs.internal.Facts.{AllBelow};
+ghost use Rattle.numbers.specs.internal.Limits.{modulusBound};
+ghost use Rattle.numbers.specs.Limits.{mostRows, largestWidth};
 ghost use Rattle.rows.specs.Rows.{rowsOf};
-ghost use Rattle.columns.specs.Column.{firstOnly, hornerWords, lessMultiple, digits, lineTimes, undigits, middleSum, ColumnStored};
+ghost use Rattle.columns.specs.internal.Column.{firstOnly, hornerWords, lessMultiple, digits, lineTimes, undigits, middleSum, ColumnStored};
 
 // Horner's scheme at c, in place: word 0 becomes the value at c, the others the quotient by Y − c.
 pub fn horner(p: u32, c: u32, e: &mut [u32])

@@ -6,9 +6,11 @@ use rows::kernel::combine;
 ghost use mathlib.Core.Path.{_≡_};
 ghost use Prim.Native.Nat.{_+_, _*_, _≤_, _<_};
 ghost use lib.ListN.{length};
-ghost use Rattle.numbers.specs.Words.{tabulate, AllBelow};
-ghost use Rattle.numbers.specs.Limits.{modulusBound, mostRows, largestWidth};
-ghost use Rattle.solution.specs.Table.{leftAt, Step, SplitTo, SplitReady};
+ghost use Rattle.numbers.specs.Words.{tabulate};
+ghost use Rattle.numbers.specs.internal.Facts.{AllBelow};
+ghost use Rattle.numbers.specs.internal.Limits.{modulusBound};
+ghost use Rattle.numbers.specs.Limits.{mostRows, largestWidth};
+ghost use Rattle.solution.specs.internal.Table.{leftAt, Step, SplitTo, SplitReady};
 
 // What column t of the rows leaves, once the products of the columns between are taken off.
 fn gather_rows(p: u32, m: usize, k: usize, n: usize, t: usize, rows: &[u32], e: &mut [u32])

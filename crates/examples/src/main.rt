@@ -11,8 +11,7 @@ ghost use lib.ListN.{length};
 ghost use Rattle.numbers.specs.Words.{part, over};
 ghost use Rattle.numbers.specs.Refusals.{judge, outcome, result, written};
 ghost use Rattle.numbers.specs.Limits.{largestWidth};
-ghost use Rattle.rows.specs.Rows.{productChecks, rowProduct, shiftChecks, rowShift};
-ghost use Rattle.sheet.specs.Sheet.{readVerdict, readPart};
+ghost use Rattle.rows.specs.Rows.{productChecks, rowProduct};
 
 fn say(text: &[u8]) {
     io::write_all(STDOUT_FILENO, text);
@@ -259,13 +258,15 @@ fn job_calls() {
     say_words(calls::replay(&mut s, &lent, &goals, &mut few), &few);
 }
 
-// The rows of factor i, where they stand in the sheet, at Y + by.
-fn shift_of_factor(s: &[u32], i: u32, p: u32, d: u32, n: u32, by: u32, out: &mut [u32]) -> Answer
-    ensures answer { λ r. ⌜ outcome r ≡ result (judge (shiftChecks p d n (readPart (readVerdict (now (s .entry)) i) (now (s .entry)) i) by (length (now (out .entry))))) ((d + 1) * n) ⌝ }
-    ensures words { λ _. ⌜ now (out .exit) ≡ written (judge (shiftChecks p d n (readPart (readVerdict (now (s .entry)) i) (now (s .entry)) i) by (length (now (out .entry)))))
-        (over (rowShift p d n (readPart (readVerdict (now (s .entry)) i) (now (s .entry)) i) by) (now (out .entry))) (now (out .entry)) ⌝ }
-{
-    rows::shift(p, d, n, sheet::factor_rows(s, i), by, out)
+// The rows of a factor of power 2 over 5, with 4 terms, passed on where they stand in the sheet: at Y + 3, and times 1 + X. 5 is not below 5; there is no
+// factor 3, which is refused before that.
+fn pass_on(s: &[u32], i: u32) {
+    let line = [1u32, 1, 0, 0];
+    let mut out = [9u32; 9];
+    say_words(sheet::factor_shift(s, i, 3, &mut out), &out);
+    say_words(sheet::factor_times(s, i, 0, &line, &mut out), &out);
+    say_words(sheet::factor_shift(s, i, 5, &mut out), &out);
+    say_words(sheet::factor_shift(s, 3, 5, &mut out), &out);
 }
 
 // Y (Y − 1)² (Y − 3) over 5 at X = 0, four terms: a double root, and p barely above the degree.
@@ -297,10 +298,7 @@ fn three_roots() {
     say_open(5, 4, 4, &f, &roots, &mut s);
     say_extend(&mut s, 4);
     say_test(&s);
-    // the double root's rows at Y + 3; there is no factor 3, so that its part is empty and too short
-    let mut shifted = [9u32; 9];
-    say_words(shift_of_factor(&s, 1, 5, 1, 4, 3, &mut shifted), &shifted);
-    say_words(shift_of_factor(&s, 3, 5, 1, 4, 3, &mut shifted), &shifted);
+    pass_on(&s, 1);
     // more terms than columns; the last word of the factors changed
     s[3] = 5;
     say_test(&s);

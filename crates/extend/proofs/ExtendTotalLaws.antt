@@ -5,19 +5,22 @@
 -- Assumes nothing.
 use Prim.Native.Nat.{ℕ, _≤_, _<_}
 use native.Mathlib.Omega.{arith}
-use mathlib.Core.Path.{_≡_, refl, sym, _∙_, ap, ap₂, subst}
+use mathlib.Core.Path.{_≡_, refl, _∙_, ap, ap₂}
 use mathlib.Core.Logic.{_⊎_, inl, inr}
 use mathlib.Core.Bool.{Bool, true, false, not, _||_}
 use mathlib.Core.List.{List, [], _∷_}
 use borrow.Author.Tests.{ltb-false, lt-ltb, le-ltb, not-false}
 use lib.Dec.{ltb}
 use Rattle.numbers.specs.Words.{outside}
-use Rattle.numbers.specs.Refusals.{beyondCheck, behindCheck, judge, refusal, result, Leaves}
-use Rattle.numbers.specs.declared.refusal.Verdict.{Verdict}
+use Rattle.numbers.specs.Refusals.{beyondCheck, behindCheck, judge, refusal}
 use Rattle.numbers.specs.declared.refusal.Verdict.the-variants.{Pass, Refuse}
-use Rattle.numbers.proofs.RefusalsLaws.{One, none-judged, inside, pass-check, take-check, skip-check}
+use Rattle.numbers.specs.One.{OneOutcome}
+use Rattle.numbers.proofs.OneLaws.{verdict-one}
+use Rattle.numbers.proofs.RefusalsLaws.{none-judged, inside, pass-check, take-check, skip-check}
 use Rattle.layout.specs.Layout.{terms, width, reach}
-use Rattle.sheet.specs.Sheet.{Sound, soundTest, soundCheck}
+use Rattle.sheet.specs.Sheet.{Sound}
+use Rattle.sheet.specs.Test.{soundTest}
+use Rattle.sheet.specs.Reading.{soundCheck}
 use Rattle.sheet.proofs.SoundTestLaws.{sound-test}
 use Rattle.extend.specs.Extend.{extendChecks, extendVerdict, ExtendDone, Extended}
 use Rattle.extend.proofs.ExtendingLaws.{extended, extend-done, extend-only}
@@ -36,26 +39,13 @@ module _ (old : List ℕ) (w : ℕ) where
       let c = pass-check (behindCheck (terms old) w) _ (b .1) in
       record { sound = sound-test old .0 (not-false (soundTest old) (a .0)); low = ltb-false w (terms old) (c .0); high = inside 1 (reach old) w (b .0) .1 }
 
-  pub extend-total : One (Extended old w)
-  extend-total = go (extendVerdict old w) refl
-    where
-      go : (v : Verdict) → extendVerdict old w ≡ v → One (Extended old w)
-      go Pass e =
-          let h = extend-able e in
-          let new′ : List ℕ = extended old (h .sound) w (h .low) (h .high) in
-          let d : ExtendDone old w new′ = extend-done old (h .sound) w (h .low) (h .high) in
-          record {
-            answer = result (extendVerdict old w) w;
-            left = new′;
-            there = record { answers = refl; leaves = subst (λ v. Leaves v (ExtendDone old w new′) old new′) (sym e) d };
-            only = λ a new x. (x .answers, extend-only old (h .sound) w new new′ (subst (λ v. Leaves v (ExtendDone old w new) old new) e (x .leaves)) d);
-          }
-      go (Refuse r) e = record {
-        answer = result (extendVerdict old w) w;
-        left = old;
-        there = record { answers = refl; leaves = subst (λ v. Leaves v (ExtendDone old w old) old old) (sym e) refl };
-        only = λ a new x. (x .answers, subst (λ v. Leaves v (ExtendDone old w new) old new) e (x .leaves));
-      }
+  pub extended-one : OneOutcome (Extended old w)
+  extended-one =
+      verdict-one (Extended old w) (extendVerdict old w) w (λ new. ExtendDone old w new) old (λ a new. (λ x. (x .answers, x .leaves), λ e. record { answers = e .0; leaves = e .1 }))
+      (λ e.
+      let h = extend-able e in
+      let d = extend-done old (h .sound) w (h .low) (h .high) in
+      (extended old (h .sound) w (h .low) (h .high), record { is = d; only = λ new x. extend-only old (h .sound) w new (extended old (h .sound) w (h .low) (h .high)) x d }))
 
   -- extend's verdict, case by case
   pub extend-spoiled : ¬ Sound old → extendVerdict old w ≡ Refuse (refusal 13 0)

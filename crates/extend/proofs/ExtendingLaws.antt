@@ -18,10 +18,11 @@ use Rattle.layout.specs.Layout.{degree, width, terms, count, factorsFrom, root,
 use Rattle.sheet.specs.Sheet.{Sound, Given, Holds}
 use Rattle.extend.specs.Extend.{InColumns, ExtendDone}
 use Rattle.layout.proofs.RegionsLaws.{in-rows, by-region}
-use Rattle.sheet.proofs.ContentLaws.{Content, contentOf, headerWords, sheetWords, word-header, word-root, word-power, word-polynomial, word-factors, length-sheet, SameContent}
+use Rattle.sheet.specs.internal.Content.{Content, contentOf, headerWords, sheetWords, cut, Ready}
+use Rattle.sheet.proofs.ContentLaws.{word-header, word-root, word-power, word-polynomial, word-factors, length-sheet, SameContent}
 use Rattle.sheet.proofs.SheetsLaws.{Good, sound-good, sound-words, words-content, words-sound}
 use Rattle.sheet.proofs.UniqueLaws.{good-unique, sound-unique}
-use Rattle.sheet.proofs.BuildLaws.{cut, cut-low, cut-high, Ready, good-ready, solved, solved-good}
+use Rattle.sheet.proofs.BuildLaws.{cut-low, cut-high, good-ready, solved, solved-good}
 use Rattle.sheet.proofs.HoldsLaws.{holds-by}
 
 -- a column that both cuts keep, or that both leave out
@@ -43,7 +44,7 @@ module _ (old : List ℕ) (h : Sound old) (w : ℕ) where
         ∙ before _ (omega (arith, in-rows (degree old + 1) (width old) j t (omega arith) g)) (omega arith)
 
     pub extend-end : end new ≡ end old
-    extend-end = sym (d .sound .offset-end) ∙ before 9 (omega arith) (omega arith) ∙ h .offset-end
+    extend-end = sym (d .sound .header 9 (omega arith)) ∙ before 9 (omega arith) (omega arith) ∙ h .header 9 (omega arith)
 
     pub extend-holds : (g : Given) (k : ℕ) → Holds g k old → Holds g w new
     extend-holds g k holds = holds-by g k w old new holds (d .sound) (d .reached) before

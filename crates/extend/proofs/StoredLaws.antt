@@ -15,18 +15,19 @@ use Rattle.numbers.proofs.WordsLaws.{lt-or-ge, length-over, over-past, from, fr
 use Rattle.columns.proofs.ColumnLaws.{putFrom}
 use Rattle.solution.proofs.DigitsLaws.{put-kept, put-drop, put-long}
 use Rattle.layout.specs.declared.Header.{Header}
-use Rattle.layout.specs.Places.{HeaderIs}
+use Rattle.layout.specs.internal.Places.{HeaderIs}
 use Rattle.layout.proofs.PlacesLaws.{header-factors}
 use Rattle.layout.specs.Layout.{modulus, degree, width, termsAt, terms, count, factorsFrom, root, power, end, polynomial, factorRows, rootsFrom}
 use Rattle.sheet.specs.Sheet.{Sound}
-use Rattle.front.specs.Front.{Front}
-use Rattle.sheet.specs.Stages.{Computed}
+use Rattle.front.specs.internal.Front.{Front}
+use Rattle.sheet.specs.internal.Stages.{Computed}
 use Rattle.layout.proofs.RegionsLaws.{in-rows, by-region}
-use Rattle.sheet.proofs.ContentLaws.{Content, contentOf, size, headerWords, sheetWords, word-header, word-root, word-power, word-polynomial, word-factors}
+use Rattle.sheet.specs.internal.Content.{Content, contentOf, size, headerWords, sheetWords}
+use Rattle.sheet.proofs.ContentLaws.{word-header, word-root, word-power, word-polynomial, word-factors}
 use Rattle.sheet.proofs.SheetsLaws.{Good, sound-words, words-sound}
 use Rattle.sheet.proofs.SoundStagesLaws.{sound-same, up-low}
 use Rattle.extend.specs.Extend.{InColumns, ExtendDone}
-use Rattle.extend.specs.Stored.{Stored}
+use Rattle.extend.specs.internal.Stored.{Stored}
 use Rattle.extend.proofs.ExtendingLaws.{untouched}
 
 module _ (old : List ℕ) (h : Sound old) (front : Front old) (w : ℕ) (low : terms old ≤ w) (high : w ≤ width old) (rows : List ℕ) (g : Computed old w rows)

@@ -1,5 +1,7 @@
 -- What extend answers and leaves.
---   extendChecks       the checks
+--   extendChecks, extendVerdict   the checks, and what they come to
+--   InColumns s w i    word i stands in columns k..w − 1 of the factors' rows
+--   ExtendDone         what an accepted call leaves: a sound sheet of w terms; no other word is changed
 --   Extended           extend's answer and the words at exit
 -- Assumes nothing.
 use Prim.Native.Nat.{ℕ, _-_, _≤_, _<_, _%_}
@@ -11,14 +13,11 @@ use Rattle.numbers.specs.Words.{word}
 use Rattle.numbers.specs.Refusals.{Check, beyondCheck, behindCheck, judge, Outcome, result, Leaves}
 use Rattle.numbers.specs.declared.refusal.Verdict.{Verdict}
 use Rattle.layout.specs.Layout.{degree, width, termsAt, terms, count, reach, factorsFrom, end}
-use Rattle.sheet.specs.Sheet.{Sound, soundCheck}
+use Rattle.sheet.specs.Sheet.{Sound}
+use Rattle.sheet.specs.Reading.{soundCheck}
 
 abbrev pub extendChecks : List ℕ → ℕ → List Check
-extendChecks s w =
-    soundCheck s
-    ∷ beyondCheck (reach s) w
-    ∷ behindCheck (terms s) w
-    ∷ []
+extendChecks s w = soundCheck s ∷ beyondCheck (reach s) w ∷ behindCheck (terms s) w ∷ []
 
 unfoldable pub extendVerdict : List ℕ → ℕ → Verdict
 extendVerdict s w = judge (extendChecks s w)

@@ -1,2 +1,2 @@
 pub mod Extend
-pub mod Stored
+pub mod internal

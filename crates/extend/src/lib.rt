@@ -15,10 +15,10 @@ ghost use lib.ListN.{length};
 ghost use Rattle.numbers.specs.Refusals.{outcome};
 ghost use Rattle.numbers.specs.declared.refusal.Verdict.the-variants.{Pass};
 ghost use Rattle.layout.specs.Layout.{degree, width};
-ghost use Rattle.front.specs.Front.{Front};
-ghost use Rattle.sheet.specs.Stages.{Computed};
+ghost use Rattle.front.specs.internal.Front.{Front};
+ghost use Rattle.sheet.specs.internal.Stages.{Computed};
 ghost use Rattle.extend.specs.Extend.{Extended, extendVerdict};
-ghost use Rattle.extend.specs.Stored.{Stored};
+ghost use Rattle.extend.specs.internal.Stored.{Stored};
 
 // The terms to work out: w where a sheet of k terms and n columns can have them, else k.
 fn terms_to(k: usize, n: usize, w: usize) -> usize

@@ -14,16 +14,17 @@ use mathlib.Core.List.{List}
 use borrow.Author.Tests.{ltb-false, leb-true, leb-false, eqb-true, eqb-false}
 use lib.Dec.{leb, ltb, eqb}
 use lib.ListN.{length}
-use Rattle.numbers.specs.Words.{outside, Decides}
+use Rattle.numbers.specs.Words.{outside}
+use Rattle.numbers.specs.internal.Facts.{Decides}
 use Rattle.numbers.specs.Refusals.{check, judge, modulusChecks}
 use Rattle.numbers.specs.declared.refusal.Verdict.the-variants.{Pass}
 use Rattle.numbers.proofs.RefusalsLaws.{pass-check, neither, modulus-pass, modulus-fine}
 use Rattle.numbers.specs.Limits.{largestModulus, largestDegree, largestWidth}
 use Rattle.layout.specs.declared.Header.{Header}
 use Rattle.layout.specs.Layout.{modulus, degree, width, count, polynomialFrom}
-use Rattle.layout.specs.Places.{HeaderIs, Placed}
+use Rattle.layout.specs.internal.Places.{HeaderIs, Placed}
 use Rattle.layout.proofs.PlacesLaws.{header-polynomial, header-size}
-use Rattle.front.specs.Front.{OneTo, HeaderFits, PowersFit, Shape, RootsBelow, RootsRise, RowsBelow, topFrom}
+use Rattle.front.specs.internal.Front.{OneTo, HeaderFits, PowersFit, Shape, RootsBelow, RootsRise, RowsBelow, topFrom}
 
 pub modulus-small : (p : ℕ) → judge (modulusChecks p) ≡ Pass → p ≤ largestModulus
 modulus-small p e =

@@ -15,10 +15,10 @@ use numbers::refusal::Verdict;
 ghost use mathlib.Core.Path.{_≡_};
 ghost use Prim.Native.Nat.{_+_, _*_, _≤_, _<_};
 ghost use lib.ListN.{length};
-ghost use Rattle.numbers.specs.Words.{Decides};
+ghost use Rattle.numbers.specs.internal.Facts.{Decides};
 ghost use Rattle.numbers.specs.Limits.{largestDegree, largestWidth};
 ghost use Rattle.layout.specs.Layout.{polynomialFrom};
-ghost use Rattle.front.specs.Front.{OneTo, HeaderFits, PowersFit, OffsetsFit, Shape, RootsBelow, RootsRise, RowsBelow, PolynomialFits, Front};
+ghost use Rattle.front.specs.internal.Front.{OneTo, HeaderFits, PowersFit, OffsetsFit, Shape, RootsBelow, RootsRise, RowsBelow, PolynomialFits, Front};
 
 // Whether n is from 1 to high.
 fn one_to(high: usize, n: usize) -> bool

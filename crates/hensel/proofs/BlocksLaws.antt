@@ -6,7 +6,8 @@ use native.Mathlib.Nat.{lt-of-not-le}
 use native.Mathlib.Decide.{decLe}
 use native.Mathlib.Omega.{arith}
 use mathlib.Core.Path.{_≡_}
-use Rattle.algebra.specs.Sums.{sumTo, sumTo-zero, sumTo-suc, sumTo-mono}
+use Rattle.algebra.specs.Sums.{sumTo}
+use Rattle.algebra.proofs.SumsLaws.{sumTo-zero, sumTo-suc, sumTo-mono}
 
 -- row j of block i, of r blocks
 pub in-block : (r : ℕ) (m : ℕ → ℕ) (i j : ℕ) → i < r → j < m i → sumTo i m + j < sumTo r m

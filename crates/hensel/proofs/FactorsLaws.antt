@@ -2,8 +2,8 @@
 --   product-rem         the plain product of a list of row polynomials is their product over F_p
 --   product-ext         a product's columns below k are determined by those of its factors
 --   factors-chain       lists of factors are chains over F_p
---   factors-unique      where two polynomials agree below X^(n + 1), their factor lists do: r, roots, powers and columns
---   factors-determine   and the polynomials agree where the lists do
+--   factors-determine   where two factor lists agree below X^(n + 1), r, roots, powers and columns, their polynomials do
+--   factors-unique      and the lists agree where the polynomials do
 --   factors-ext         the conditions look only at the rows and columns that they name
 -- Assumes nothing.
 use Prim.Native.Nat.{ℕ, zero, suc, _%_, _≤_, _<_, Fin}
@@ -11,14 +11,19 @@ use native.Mathlib.Nat.{lt-of-not-le, mod-eq-of-lt}
 use native.Mathlib.Decide.{decLe}
 use native.Mathlib.Omega.{arith}
 use mathlib.Core.Path.{_≡_, refl, sym, _∙_, ap, ap₂, fun-ext}
-use Rattle.algebra.specs.Sums.{sumTo, sumTo-ext}
-use Rattle.algebra.specs.Ring.{CommRing, prod, prod-zero, prod-suc}
-use Rattle.algebra.specs.Series.{Series, cons, zero-at, one-at}
-use Rattle.algebra.specs.Poly.{linPow, below-linPow, linPow-top}
-use Rattle.algebra.specs.Columns.{Columns}
-use Rattle.algebra.specs.Chain.{Monic, IsChain, Rising, SameChain, chain-unique, chain-monic}
-use Rattle.algebra.specs.Fp.{Prime, Fp, p-pos, Fp-field, rem, val-unique}
-use Rattle.algebra.specs.Bridge.{col, same-rem, rem-zero, rem-one}
+use Rattle.algebra.specs.Sums.{sumTo}
+use Rattle.algebra.proofs.SumsLaws.{sumTo-ext}
+use Rattle.algebra.specs.internal.Ring.{CommRing, prod}
+use Rattle.algebra.proofs.RingLaws.{prod-zero, prod-suc}
+use Rattle.algebra.specs.internal.Series.{Series, cons}
+use Rattle.algebra.proofs.SeriesLaws.{zero-at, one-at}
+use Rattle.algebra.specs.internal.Poly.{linPow, Columns}
+use Rattle.algebra.proofs.PolyLaws.{below-linPow, linPow-top}
+use Rattle.algebra.proofs.Chain.{Monic, IsChain, Rising, SameChain, chain-unique, chain-monic}
+use Rattle.algebra.specs.Prime.{Prime}
+use Rattle.algebra.specs.internal.Fp.{Fp, rem, col}
+use Rattle.algebra.proofs.FpLaws.{p-pos, Fp-field, val-unique}
+use Rattle.algebra.proofs.BridgeLaws.{same-rem, rem-zero, rem-one}
 use Rattle.rows.proofs.ShiftLaws.{root-power}
 use Rattle.rows.specs.Rows.{mul, monic}
 use Rattle.rows.proofs.MulLaws.{mul-rem, mul-ext, mul-lt}
@@ -138,6 +143,17 @@ module _ {p : ℕ} (prime : Prime p) where
 
   module _ (n k k′ D D′ r r′ : ℕ) (f f′ : ℕ → ℕ → ℕ) (root root′ power power′ : ℕ → ℕ) (a a′ : ℕ → ℕ → ℕ → ℕ)
       (h : IsFactors p D k r f root power a) (h′ : IsFactors p D′ k′ r′ f′ root′ power′ a′) (l : n < k) (l′ : n < k′) where
+    pub factors-determine : SameFactors (suc n) r r′ root root′ power power′ a a′ → SamePolynomial (suc n) D D′ f f′
+    factors-determine e =
+        let powers : (i : ℕ) → i < r → power i ≡ power′ i = e .powers in
+        let d : D ≡ D′ = sym (h .degree) ∙ sumTo-ext r powers ∙ ap (λ x. sumTo x power′) (e .counts) ∙ h′ .degree in
+        record {
+          degrees = d;
+          columns = λ j u t v.
+              sym (h .same j u t (omega arith)) ∙ monics-ext p (suc n) r power power′ a a′ powers (e .columns) j t v
+              ∙ ap (λ x. product p x (λ i. monic (power′ i) (a′ i)) j t) (e .counts) ∙ h′ .same j (omega arith) t (omega arith);
+        }
+
     same-columns : SamePolynomial (suc n) D D′ f f′ → (t : ℕ) → t < suc n → prod (Columns (K p pos)) r (columnsOf power a) t ≡ prod (Columns (K p pos)) r′ (columnsOf power′ a′) t
     same-columns e t g = fun-ext λ j. go j (decLe j D)
       where
@@ -166,14 +182,4 @@ module _ {p : ℕ} (prime : Prime p) where
               let u′ : j < power′ i = let z = c .powers i g in omega arith in
               same-rem p pos (b i g j u t v) (b′ i (let z = c .counts in omega arith) j u′ t v)
               (ap q (sym (monic-low (power i) (a i) j t u)) ∙ ap (λ x. x j) (c .columns i g t v) ∙ ap q (monic-low (power′ i) (a′ i) j t u′));
-        }
-
-    pub factors-determine : SameFactors (suc n) r r′ root root′ power power′ a a′ → SamePolynomial (suc n) D D′ f f′
-    factors-determine e =
-        let d : D ≡ D′ = sym (h .degree) ∙ sumTo-ext r (e .powers) ∙ ap (λ x. sumTo x power′) (e .counts) ∙ h′ .degree in
-        record {
-          degrees = d;
-          columns = λ j u t v.
-              sym (h .same j u t (omega arith)) ∙ monics-ext p (suc n) r power power′ a a′ (e .powers) (e .columns) j t v
-              ∙ ap (λ x. product p x (λ i. monic (power′ i) (a′ i)) j t) (e .counts) ∙ h′ .same j (omega arith) t (omega arith);
         }

@@ -1,9 +1,9 @@
 -- Hensel factors of a row polynomial, by their conditions.
 --   rootPower p c m j       the coefficient of Y^j of (Y − c)^m
 --   product p n F           F 0 · F 1 · .. · F (n − 1)
---   flat a                  the polynomial a in Y alone
+--   flat a, one             the polynomial a in Y alone, and the polynomial 1
 --   split p r root power j  the coefficient of Y^j of the product of the (Y − c_i)^(m_i)
---   IsFactors ..            document 01's conditions: a i are the rows of factor i below its degree, power i
+--   IsFactors ..            the conditions: a i are the rows of factor i below its degree, power i
 --   SameFactors ..          two factor lists agree below X^j
 --   SamePolynomial ..       two polynomials agree below X^j
 -- Roots, powers and factors are counted from 0 here.

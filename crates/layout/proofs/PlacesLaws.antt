@@ -15,12 +15,13 @@ use native.Mathlib.Omega.{arith}
 use mathlib.Core.Path.{_≡_, _∙_, ap, ap₂}
 use mathlib.Core.List.{List}
 use lib.ListN.{length, take, drop}
-use Rattle.algebra.specs.Sums.{sumTo, sumTo-suc, sumTo-mono}
+use Rattle.algebra.specs.Sums.{sumTo}
+use Rattle.algebra.proofs.SumsLaws.{sumTo-suc, sumTo-mono}
 use Rattle.numbers.specs.Limits.{largestDegree, largestWidth}
 use Rattle.numbers.proofs.RefusalsLaws.{few-words}
 use Rattle.layout.specs.declared.Header.{Header}
 use Rattle.layout.specs.Layout.{degree, width, count, power, end, polynomialFrom, factorsFrom, total, factorFrom, factorSize, factorPart}
-use Rattle.layout.specs.Places.{Placed, HeaderIs}
+use Rattle.layout.specs.internal.Places.{Placed, HeaderIs}
 
 -- as many as there are numbers, each 1 or more, is at most their sum
 pub count-sum : (r : ℕ) (m : ℕ → ℕ) → ((i : ℕ) → i < r → 1 ≤ m i) → r ≤ sumTo r m

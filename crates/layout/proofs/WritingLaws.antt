@@ -11,7 +11,8 @@ use Rattle.numbers.specs.Words.{word, tabulate, over}
 use Rattle.numbers.proofs.WordsLaws.{Writing, writing-none, writing-store}
 use Rattle.rows.specs.Rows.{table}
 use Rattle.rows.proofs.RowsLaws.{table-suc, length-table}
-use Rattle.layout.specs.Layout.{rootsFrom, polynomialFrom, factorsFrom, total, headerOf, rootTable}
+use Rattle.layout.specs.Layout.{rootsFrom, polynomialFrom, factorsFrom, total, headerOf}
+use Rattle.layout.specs.internal.Places.{rootTable}
 
 pub header-stored : (p D N k r x y t : ℕ) (s : List ℕ) → rootsFrom ≤ length s → x ≡ polynomialFrom r → y ≡ factorsFrom D N r → t ≡ total D N r
     → set (set (set (set (set (set (set (set (set (set s 0 p) 1 D) 2 N) 3 k) 4 r) 5 rootsFrom) 6 x) 7 y) 8 t) 9 t ≡ over (headerOf p D N k r) s

@@ -1,13 +1,14 @@
 -- Where the words of a sheet stand: the one place that knows. Roots and factors are counted from 0.
+--   rowsAt s o N j t                               row j, column t of rows of N words from word o on
 --   modulus, degree, width, terms, count           header words 0 to 4: p, D, N, k, r
+--   termsAt                                        the place of k, which extend sets
 --   reach                                          the most terms that there can be
---   rootsOffset, polynomialOffset, factorsOffset, restOffset, endOffset   header words 5 to 9
---   rootsFrom, polynomialFrom, factorsFrom, total  what these have to be, from D, N and r; T is the total
---   headerOf p D N k r                             the header of a sheet, word by word
+--   rootsFrom, polynomialFrom, factorsFrom, total  where roots and rows begin, from D, N and r, and T, where they end
+--   headerOf p D N k r                             the ten words of the header
 --   root, power, polynomial, factorRows, factor, end   readers by name
 --   factorFrom, factorSize, factorPart             where the rows of a factor stand, how many words they have, and these words
 -- Assumes nothing.
-use Prim.Native.Nat.{ℕ, zero, suc, _+_, _*_}
+use Prim.Native.Nat.{ℕ, _+_, _*_}
 use mathlib.Core.List.{List, [], _∷_}
 use Rattle.algebra.specs.Sums.{sumTo}
 use Rattle.numbers.specs.Words.{word, part}
@@ -39,21 +40,6 @@ count s = word s 4
 abbrev pub reach : List ℕ → ℕ
 reach s = width s
 
-abbrev pub rootsOffset : List ℕ → ℕ
-rootsOffset s = word s 5
-
-abbrev pub polynomialOffset : List ℕ → ℕ
-polynomialOffset s = word s 6
-
-abbrev pub factorsOffset : List ℕ → ℕ
-factorsOffset s = word s 7
-
-abbrev pub restOffset : List ℕ → ℕ
-restOffset s = word s 8
-
-abbrev pub endOffset : List ℕ → ℕ
-endOffset s = word s 9
-
 -- the roots follow the header, two words each: root, then power
 abbrev pub rootsFrom : ℕ
 rootsFrom = 10
@@ -68,6 +54,7 @@ factorsFrom D N r = polynomialFrom r + (D + 1) * N
 abbrev pub total : (D N r : ℕ) → ℕ
 total D N r = polynomialFrom r + (2 * D + 1) * N
 
+-- the ten words of the header
 abbrev pub headerOf : (p D N k r : ℕ) → List ℕ
 headerOf p D N k r = p ∷ D ∷ N ∷ k ∷ r ∷ rootsFrom ∷ polynomialFrom r ∷ factorsFrom D N r ∷ total D N r ∷ total D N r ∷ []
 
@@ -77,11 +64,6 @@ root s i = word s (rootsFrom + 2 * i)
 
 abbrev pub power : List ℕ → ℕ → ℕ
 power s i = word s (rootsFrom + 2 * i + 1)
-
--- root i, then power i: row i of the roots
-abbrev pub rootTable : (roots powers : List ℕ) → ℕ → ℕ → ℕ
-rootTable roots powers i zero = word roots i
-rootTable roots powers i (suc t) = word powers i
 
 abbrev pub end : List ℕ → ℕ
 end s = total (degree s) (width s) (count s)

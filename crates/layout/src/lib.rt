@@ -7,7 +7,7 @@ ghost use Rattle.algebra.specs.Sums.{sumTo};
 ghost use Rattle.numbers.specs.Words.{part};
 ghost use Rattle.numbers.specs.Limits.{largestDegree, largestWidth};
 ghost use Rattle.layout.specs.Layout.{termsAt, degree, width, count, rootsFrom, polynomialFrom, factorsFrom, total, root, power, factorFrom, factorPart};
-ghost use Rattle.layout.specs.Places.{HeaderIs, OffsetsAre, Placed};
+ghost use Rattle.layout.specs.internal.Places.{HeaderIs, OffsetsAre, Placed};
 
 pub mod writing; // the header, and the roots with their powers, of a fresh sheet
 

@@ -9,7 +9,8 @@ ghost use lib.ListN.{length};
 ghost use Rattle.numbers.specs.Words.{over};
 ghost use Rattle.numbers.specs.Limits.{largestDegree, largestWidth};
 ghost use Rattle.rows.specs.Rows.{table};
-ghost use Rattle.layout.specs.Layout.{rootsFrom, headerOf, rootTable};
+ghost use Rattle.layout.specs.Layout.{rootsFrom, headerOf};
+ghost use Rattle.layout.specs.internal.Places.{rootTable};
 
 // The header. Nothing stands between the factors and the end, so words 8 and 9 are both T.
 pub fn write_header(p: u32, d: u32, n: u32, terms: u32, r: usize, out: &mut [u32])

@@ -14,7 +14,8 @@ use Rattle.numbers.specs.declared.refusal.Verdict.the-variants.{Pass, Refuse}
 use Rattle.numbers.proofs.RefusalsLaws.{take-check, skip-check, after-pass, after-refuse}
 use Rattle.numbers.proofs.WordsLaws.{Writing, over-whole, length-tabulate}
 use Rattle.listing.specs.Job.{half, jobModulus, halves, sizeChecks, jobChecks}
-use Rattle.text.specs.Limits.{mostDegree, mostWidth, headSize, rowsRoom}
+use Rattle.text.specs.Limits.{mostDegree, mostWidth, headSize}
+use Rattle.text.specs.internal.Rooms.{rowsRoom}
 
 pub job-short : (b : List ℕ) → length b < headSize → judge (jobChecks b) ≡ Refuse (refusal 5 0)
 job-short b h = take-check (check 5 (ltb (length b) headSize) 0) _ (lt-ltb (length b) headSize h)

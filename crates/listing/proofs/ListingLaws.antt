@@ -7,7 +7,7 @@
 --   wrote-early, wrote-job     the text of a job, by its own checks or by open's
 --   listed-fits, listed-never  an accepted listing is within its room; `textRoom` bytes are always enough
 --   listing-same               two sheets that hold it have one listing
---   one-listing                each job comes to exactly one text
+--   one-listing, listed-only   each job comes to exactly one text; so listing it has one outcome only
 -- Assumes nothing.
 use Prim.Native.Nat.{ℕ, zero, suc, _+_, _*_, _≤_, _<_}
 use native.Mathlib.Nat.{mul-le-mul, add-mul}
@@ -19,12 +19,15 @@ use lib.Dec.{ltb, eqb}
 use lib.ListN.{length, take, drop, length-append}
 use lib.Seq.{getD-take, length-take-le, take-at}
 use borrow.Author.Tests.{le-ltb, lt-ltb, ltb-false, eqb-true, not-false}
-use Rattle.algebra.specs.Sums.{sumTo, sumTo-ext}
+use Rattle.algebra.specs.Sums.{sumTo}
+use Rattle.algebra.proofs.SumsLaws.{sumTo-ext}
 use Rattle.numbers.specs.Words.{word, tabulate, over, outside}
 use Rattle.numbers.specs.Refusals.{check, judge, refusal, Outcome, accepted, refused, result, written, modulusChecks, Leaves}
 use Rattle.numbers.specs.declared.refusal.Refusal.{Refusal}
 use Rattle.numbers.specs.declared.refusal.Verdict.{Verdict}
 use Rattle.numbers.specs.declared.refusal.Verdict.the-variants.{Pass, Refuse}
+use Rattle.numbers.specs.One.{One}
+use Rattle.numbers.proofs.OneLaws.{one-same}
 use Rattle.numbers.proofs.RefusalsLaws.{after-pass, after-refuse, pass-parts, take-check, skip-check, none-judged, pass-check, neither, inside, answer-refused}
 use Rattle.numbers.proofs.WordsLaws.{tabulate-ext, length-tabulate}
 use Rattle.layout.specs.Layout.{modulus, degree, width, terms, count, root, power, factor, rootsFrom, factorsFrom, end}
@@ -38,11 +41,14 @@ use Rattle.extend.specs.Extend.{extendVerdict, ExtendDone, Extended}
 use Rattle.extend.proofs.ExtendingLaws.{extend-holds}
 use Rattle.open.specs.Open.{needed, openChecks, openVerdict, OpenDone, Opened}
 use Rattle.open.proofs.OpeningLaws.{open-ready, sheet-exists}
-use Rattle.text.specs.Limits.{mostDegree, mostWidth, headSize, sheetRoom, refusalRoom, textRoom}
-use Rattle.text.specs.Text.{joinTo, rowLine, rowLines, rootLine, headLine, factorText, listingText, refusedText, Listable, Puts}
+use Rattle.text.specs.Limits.{mostDegree, mostWidth, headSize, textRoom}
+use Rattle.text.specs.internal.Rooms.{sheetRoom, refusalRoom}
+use Rattle.text.specs.Text.{joinTo, rowLine, rowLines, rootLine, headLine, factorText, listingText, refusedText}
+use Rattle.text.specs.internal.Putting.{Listable, Puts}
 use Rattle.text.proofs.TextLaws.{puts-as}
 use Rattle.listing.specs.Job.{half, jobModulus, jobDegree, jobWidth, jobCount, halves, misplaced, placeChecks, sizeChecks, jobChecks, jobGiven, listVerdict}
-use Rattle.listing.specs.Listing.{TextOf, IsListing, Wrote, WroteGiven, roomVerdict, Listed}
+use Rattle.listing.specs.Listing.{TextOf, IsListing, roomVerdict, Listed}
+use Rattle.listing.specs.internal.Writing.{Wrote, WroteGiven}
 
 -- every sound sheet within a job's limits has its room
 pub listable : (s : List ℕ) → Sound s → degree s ≤ mostDegree → width s ≤ mostWidth → Listable s
@@ -166,21 +172,24 @@ pub text-listed : (v : Verdict) (g : Given) (s : List ℕ) → v ≡ Pass → Ho
 text-listed v g s e h = record { refused = λ q f. never v q f e; listed = λ f u k. listing-same g (g .N) s u h k }
 
 -- each job comes to exactly one text
-pub record OneListing (job : List ℕ) : Type 0 where
-  pub text : List ℕ
-  pub is : IsListing job text
-  pub only : (other : List ℕ) → IsListing job other → other ≡ text
-
-pub one-listing : (job : List ℕ) → OneListing job
+pub one-listing : (job : List ℕ) → One (IsListing job)
 one-listing job = go (listVerdict job) refl
   where
-    go : (v : Verdict) → listVerdict job ≡ v → OneListing job
+    go : (v : Verdict) → listVerdict job ≡ v → One (IsListing job)
     go Pass e =
         let g = jobGiven job in
         let ready = open-ready g (needed g) (pass-open job e) .0 in
         let one = sheet-exists g ready (g .N) (ready .width-low) (omega arith) in
-        record { text = listingText (one .words); is = text-listed (listVerdict job) g (one .words) e (one .holds); only = λ other x. x .listed e (one .words) (one .holds) }
-    go (Refuse r) e = record { text = refusedText (r .number) (r .detail); is = text-refused (listVerdict job) (jobGiven job) r e; only = λ other x. x .refused r e }
+        (listingText (one .words), record { is = text-listed (listVerdict job) g (one .words) e (one .holds); only = λ other x. x .listed e (one .words) (one .holds) })
+    go (Refuse r) e = (refusedText (r .number) (r .detail), record { is = text-refused (listVerdict job) (jobGiven job) r e; only = λ other x. x .refused r e })
+
+-- so the call has one outcome only
+pub listed-only : (job old : List ℕ) (a a′ : Outcome ℕ) (new new′ : List ℕ) → Listed job old a new → Listed job old a′ new′ → (a ≡ a′) × (new ≡ new′)
+listed-only job old a a′ new new′ x x′ =
+    let e : x .text ≡ x′ .text = one-same (IsListing job) (one-listing job) (x .text) (x′ .text) (x .is) (x′ .is) in (
+      x .answers ∙ ap (λ (t : List ℕ). result (roomVerdict t old) (length t)) e ∙ sym (x′ .answers),
+      x .leaves ∙ ap (λ (t : List ℕ). written (roomVerdict t old) (over t old) old) e ∙ sym (x′ .leaves),
+    )
 
 -- handing a text over: no room, and room
 pub no-room : (text old : List ℕ) → length old < length text → roomVerdict text old ≡ Refuse (refusal 10 (length text))

@@ -1,8 +1,12 @@
 -- A job file: its words, its checks, and what open is given of it.
---   half b i          16-bit word i, the low byte first
---   jobChecks b       the checks that come before those of open: under 12 bytes; p; the limits of D and N; r, the offsets and the length
---   jobGiven b        what open is given
---   listVerdict b     all the checks of a job, in their order
+--   half b i                       16-bit word i, the low byte first
+--   jobModulus, jobDegree, jobWidth, jobCount   words 0 to 3 of the head: p, D, N, r; words 4 and 5 are the offsets of the roots and of the rows
+--   halves b o n                   n words from word o on
+--   misplaced b D N                the offsets and the length, in bytes, are not what the head says
+--   placeChecks, sizeChecks        r, the offsets and the length; before them the limits of D and N
+--   jobChecks b                    the checks that come before those of open: under 12 bytes; p; then these
+--   jobGiven b                     what open is given
+--   listVerdict b                  all the checks of a job, in their order
 -- Assumes nothing.
 use Prim.Native.Nat.{ℕ, _+_, _*_}
 use mathlib.Core.Bool.{Bool, not, _||_}

@@ -1,8 +1,8 @@
 -- What listing a job answers and leaves.
---   TextOf v g text      under the verdict v, the line of the refusal, or the listing of the sheet that holds what is given, with N terms
---   IsListing job text   the text that the job comes to
---   Wrote, WroteGiven    such a text was written to a buffer
---   Listed ..            lent `old`, listing answers `answer` and leaves `new`: 10 where the text has no room, never with 9,216 bytes
+--   TextOf v g text        under the verdict v, the line of the refusal, or the listing of the sheet that holds what is given, with N terms
+--   IsListing job text     the text that the job comes to
+--   roomVerdict text old   refusal 10 where the text has no room
+--   Listed ..              lent `old`, listing answers `answer` and leaves `new`; with 9,216 bytes there is always room
 -- (`one-listing` shows that each job comes to exactly one text.)
 -- Assumes nothing.
 use Prim.Native.Nat.{ℕ, _≤_}
@@ -16,10 +16,9 @@ use Rattle.numbers.specs.declared.refusal.Refusal.{Refusal}
 use Rattle.numbers.specs.declared.refusal.Verdict.{Verdict}
 use Rattle.numbers.specs.declared.refusal.Verdict.the-variants.{Pass, Refuse}
 use Rattle.sheet.specs.Sheet.{Given, Holds}
-use Rattle.open.specs.Open.{openVerdict}
-use Rattle.text.specs.Limits.{sheetRoom, textRoom}
+use Rattle.text.specs.Limits.{textRoom}
 use Rattle.listing.specs.Job.{jobGiven, listVerdict}
-use Rattle.text.specs.Text.{listingText, refusedText, Puts}
+use Rattle.text.specs.Text.{listingText, refusedText}
 
 pub record TextOf (v : Verdict) (g : Given) (text : List ℕ) : Type 0 where
   pub refused : (r : Refusal) → v ≡ Refuse r → text ≡ refusedText (r .number) (r .detail)
@@ -27,16 +26,6 @@ pub record TextOf (v : Verdict) (g : Given) (text : List ℕ) : Type 0 where
 
 abbrev pub IsListing : (job text : List ℕ) → Type 0
 IsListing job text = TextOf (listVerdict job) (jobGiven job) text
-
--- the text of what is given stands at the buffer's beginning
-pub record Wrote (v : Verdict) (g : Given) (old : List ℕ) (answer : ℕ) (new : List ℕ) : Type 0 where
-  pub text : List ℕ
-  pub is : TextOf v g text
-  pub puts : Puts textRoom text 0 old answer new
-
--- by open's verdict in a sheet that has room for every job
-abbrev pub WroteGiven : (g : Given) (old : List ℕ) (answer : ℕ) (new : List ℕ) → Type 0
-WroteGiven g old answer new = Wrote (openVerdict g sheetRoom) g old answer new
 
 abbrev pub roomVerdict : (text old : List ℕ) → Verdict
 roomVerdict text old = judge (check 10 (ltb (length old) (length text)) (length text) ∷ [])

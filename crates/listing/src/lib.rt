@@ -15,7 +15,8 @@ ghost use Rattle.numbers.specs.declared.refusal.Verdict.the-variants.{Pass};
 ghost use Rattle.sheet.specs.Sheet.{givenOf};
 ghost use Rattle.text.specs.Limits.{mostDegree, mostWidth, textRoom};
 ghost use Rattle.listing.specs.Job.{jobChecks, jobGiven, listVerdict};
-ghost use Rattle.listing.specs.Listing.{Wrote, WroteGiven, roomVerdict, Listed};
+ghost use Rattle.listing.specs.internal.Writing.{Wrote, WroteGiven};
+ghost use Rattle.listing.specs.Listing.{roomVerdict, Listed};
 
 pub mod limits; // how large a job is, and its sheet and its text
 mod job; // reading a job file

@@ -7,10 +7,11 @@ use native.Mathlib.Nat.{eq-or-lt-of-le, mul-le-mul, mul-le-mul-right, div-add-mo
 use native.Mathlib.Omega.{arith}
 use borrow.Author.Tests.{eq-eqb, eqb-true}
 use lib.Dec.{eqb}
-use Rattle.algebra.specs.Fp.{Prime, mod-mul-mod}
+use Rattle.algebra.specs.Prime.{Prime}
+use Rattle.algebra.specs.internal.Fp.{mod-mul-mod}
 use Rattle.numbers.specs.Divisor.{leastDivisor, inverseOf}
 use Rattle.numbers.proofs.WordsLaws.{lt-or-ge, first-is, first-le}
-use Rattle.numbers.specs.Limits.{modulusBound}
+use Rattle.numbers.specs.internal.Limits.{modulusBound}
 
 -- no number from 2 up to d, d left out, divides p
 abbrev pub None : ℕ → ℕ → Type 0

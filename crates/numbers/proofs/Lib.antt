@@ -2,3 +2,4 @@ pub mod WordsLaws
 pub mod DivisorLaws
 pub mod RefusalsLaws
 pub mod TestsLaws
+pub mod OneLaws

@@ -9,8 +9,9 @@ use native.Mathlib.Omega.{arith}
 use borrow.Author.Tests.{ltb-false, not-false, eqb-true, le-ltb}
 use lib.Dec.{ltb, eqb}
 use lib.ListN.{length}
-use Rattle.algebra.specs.Fp.{Prime}
-use Rattle.numbers.specs.Words.{choose, firstLarge, over, outside, AllBelow}
+use Rattle.algebra.specs.Prime.{Prime}
+use Rattle.numbers.specs.Words.{choose, firstLarge, over, outside}
+use Rattle.numbers.specs.internal.Facts.{AllBelow}
 use Rattle.numbers.specs.Divisor.{leastDivisor}
 use Rattle.numbers.specs.Refusals.{Check, check, judge, refusal, Outcome, accepted, refused, result, written, modulusChecks, unreduced, rowsCheck, widthCheck, lengthsCheck, reducedCheck, roomCheck, inputChecks, operationChecks, Leaves}
 use Rattle.numbers.specs.declared.refusal.Refusal.{Refusal}
@@ -18,7 +19,8 @@ use Rattle.numbers.specs.declared.refusal.Verdict.{Verdict}
 use Rattle.numbers.specs.declared.refusal.Verdict.the-variants.{Pass, Refuse}
 use Rattle.numbers.proofs.WordsLaws.{none-large, below-append}
 use Rattle.numbers.proofs.DivisorLaws.{least-prime, prime-least}
-use Rattle.numbers.specs.Limits.{largestModulus, modulusBound, mostRows, largestWidth}
+use Rattle.numbers.specs.Limits.{largestModulus, mostRows, largestWidth}
+use Rattle.numbers.specs.internal.Limits.{modulusBound}
 
 pub not-pass : {A : Type 0} (r : Refusal) → Refuse r ≡ Pass → A
 not-pass r e = absurd (let z : _≡_ {A = ℕ} 0 1 = cc in omega arith)
@@ -95,13 +97,6 @@ right-lengths a m b n e =
 -- the most words that a polynomial has
 pub few-words : (rows N : ℕ) → rows ≤ mostRows → N ≤ largestWidth → rows * N ≤ 8448
 few-words rows N h w = mul-le-mul {n₂ = mostRows} {m₂ = largestWidth} h w
-
--- exactly one answer and one content of the slice
-pub record One (P : Outcome ℕ → List ℕ → Type 0) : Type 0 where
-  pub answer : Outcome ℕ
-  pub left : List ℕ
-  pub there : P answer left
-  pub only : (a : Outcome ℕ) (new : List ℕ) → P a new → (a ≡ answer) × (new ≡ left)
 
 -- p is a modulus: what checks 1 and 2 let pass. (The kernels are proved for every p below 2^24.)
 pub record Modulus (p : ℕ) : Type 0 where

@@ -10,7 +10,8 @@ use mathlib.Core.List.{List, [], _∷_}
 use lib.Dec.{eqb, leb, ltb}
 use lib.ListN.{getD}
 use borrow.Author.Tests.{eq-eqb, eqb-true, eqb-false, leb-true, leb-false, lt-ltb, ltb-true}
-use Rattle.numbers.specs.Words.{choose, allTo, all, Decides}
+use Rattle.numbers.specs.Words.{choose, allTo, all}
+use Rattle.numbers.specs.internal.Facts.{Decides}
 use Rattle.numbers.proofs.WordsLaws.{true-false}
 
 -- where a test is true, and where it is false

@@ -13,7 +13,8 @@ use borrow.Author.Tests.{le-leb, lt-leb, leb-false, leb-true}
 use lib.Dec.{leb}
 use lib.ListN.{length, take, drop, set, List·getD-append, length-set, length-append, length-drop}
 use lib.Seq.{set-at, drop-cons, take-at, drop-at, drop-drop, drop-length, take-all, getD-at, getD-drop, getD-append-add}
-use Rattle.numbers.specs.Words.{word, choose, firstWhere, firstLarge, AllBelow, tabulate, over}
+use Rattle.numbers.specs.Words.{word, choose, firstWhere, firstLarge, tabulate, over}
+use Rattle.numbers.specs.internal.Facts.{AllBelow}
 
 pub lt-or-ge : (a b : ℕ) → (a < b) ⊎ (b ≤ a)
 lt-or-ge a b = elim (decLt a b) [ yes l ↦ inl l | no n ↦ inr (omega arith) ]

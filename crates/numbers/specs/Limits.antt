@@ -1,6 +1,5 @@
 -- The limits of the specification, each by name.
 --   largestModulus   the largest modulus
---   modulusBound     2^24: every loop is proved for all moduli below it, so that a sum of all products that a call can meet fits 64 bits
 --   largestDegree    the largest degree bound
 --   mostRows         the rows of a polynomial of that degree bound
 --   largestWidth     the most words of a series: the largest N
@@ -9,9 +8,6 @@ use Prim.Native.Nat.{ℕ}
 
 abbrev pub largestModulus : ℕ
 largestModulus = 65535
-
-abbrev pub modulusBound : ℕ
-modulusBound = 16777216
 
 abbrev pub largestDegree : ℕ
 largestDegree = 32

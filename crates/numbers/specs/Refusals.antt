@@ -1,8 +1,10 @@
 -- Refusals by number: how every operation judges what it is given.
---   check n b d         a row of document 01's table: number n is given when b holds, with detail d
+--   refusal n d         the refusal of number n with detail d
+--   Check, check n b d  a row of the table of refusals: number n is given when b holds, with detail d
 --   judge checks        the first check of the list that applies: the checks stand in number order
+--   Outcome A           a call is accepted with an A, or refused with number and detail
 --   result v x          the outcome that follows a verdict: a pass is accepted with x
---   outcome r           document 01's number and values for each case of an answer
+--   outcome r           number and values for each case of an answer
 --   written v new old   the words after the call: a refusal leaves the old ones
 --   Leaves v Met old new   the same where what is written is given by conditions
 --   modulusChecks p     refusals 1 and 2
@@ -97,12 +99,7 @@ abbrev pub behindCheck : (terms w : ℕ) → Check
 behindCheck terms w = check 15 (ltb w terms) 0
 
 abbrev pub shapeChecks : (p N : ℕ) (f : List ℕ) (fRows : ℕ) (g : List ℕ) (gRows rows : ℕ) → List Check
-shapeChecks p N f fRows g gRows rows =
-    rowsCheck fRows gRows rows
-    ∷ widthCheck N
-    ∷ lengthsCheck N f fRows g gRows
-    ∷ reducedCheck p (f ++ g)
-    ∷ []
+shapeChecks p N f fRows g gRows rows = rowsCheck fRows gRows rows ∷ widthCheck N ∷ lengthsCheck N f fRows g gRows ∷ reducedCheck p (f ++ g) ∷ []
 
 abbrev pub inputChecks : (p N : ℕ) (f : List ℕ) (fRows : ℕ) (g : List ℕ) (gRows rows : ℕ) → List Check
 inputChecks p N f fRows g gRows rows = modulusChecks p ++ shapeChecks p N f fRows g gRows rows

@@ -5,16 +5,13 @@
 --   allTo n test         the test holds of 0, 1, .., n − 1
 --   all tests            all of these hold
 --   firstLarge p s       the position of the first word of s that is p or more, or the length of s
---   AllBelow p s         every word of s is below p
 --   outside low high n   n is below low or above high
 --   lowWord n            what 32 bits keep of n
 --   tabulate n f         the words f 0, f 1, .., f (n − 1)
 --   over xs s            s with the words xs in place of its first ones
 --   part s a n           the n words of s from word a on
---   Decides b A          b is true where A holds, and false where it doesn't
 -- Assumes nothing.
-use Prim.Native.Nat.{ℕ, zero, suc, _<_, _%_}
-use mathlib.Core.Path.{_≡_}
+use Prim.Native.Nat.{ℕ, zero, suc, _%_}
 use mathlib.Core.Bool.{Bool, true, false, _||_}
 use mathlib.Core.List.{List, [], _∷_, _++_}
 use lib.Dec.{leb, ltb}
@@ -43,9 +40,6 @@ unfoldable pub firstLarge : ℕ → List ℕ → ℕ
 firstLarge p [] = 0
 firstLarge p (x ∷ s) = choose (leb p x) 0 (suc (firstLarge p s))
 
-abbrev pub AllBelow : ℕ → List ℕ → Type 0
-AllBelow p s = (k : ℕ) → k < length s → word s k < p
-
 abbrev pub outside : ℕ → ℕ → ℕ → Bool
 outside low high n = ltb n low || ltb high n
 
@@ -61,8 +55,3 @@ over xs s = xs ++ drop (length xs) s
 
 abbrev pub part : List ℕ → ℕ → ℕ → List ℕ
 part s a n = take n (drop a s)
-
--- an answer to a question
-pub record Decides (b : Bool) (A : Type 0) : Type 0 where
-  pub yes : b ≡ true → A
-  pub no : b ≡ false → A → ⊥

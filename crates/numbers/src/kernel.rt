@@ -2,9 +2,9 @@
 // of this repository.
 ghost use mathlib.Core.Path.{_≡_};
 ghost use Prim.Native.Nat.{_*_, _≤_, _<_, _%_};
-ghost use Rattle.algebra.specs.Fp.{Prime};
+ghost use Rattle.algebra.specs.Prime.{Prime};
 ghost use Rattle.numbers.specs.Divisor.{leastDivisor, inverseOf};
-ghost use Rattle.numbers.specs.Limits.{modulusBound};
+ghost use Rattle.numbers.specs.internal.Limits.{modulusBound};
 
 // Trial division: the first d that divides p is the least; where d * d is past p, only p itself is left.
 pub fn least_divisor(p: u32) -> u32

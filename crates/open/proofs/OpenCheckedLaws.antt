@@ -21,7 +21,7 @@ use Rattle.layout.proofs.PlacesLaws.{all-rows-small}
 use Rattle.layout.specs.Layout.{total}
 use Rattle.sheet.specs.Sheet.{Given}
 use Rattle.open.specs.Open.{powersOf, needed, openVerdict, polynomialChecks, listChecks, splitChecks}
-use Rattle.open.specs.Opening.{CheckedOpen}
+use Rattle.open.specs.internal.Opening.{CheckedOpen}
 use Rattle.open.proofs.OpenChecksLaws.{open-rows-split}
 use Rattle.open.proofs.OpenLaws.{found-count}
 use Rattle.open.proofs.OpenSplitLaws.{split-none, split-short, split-pass}

@@ -18,7 +18,8 @@ use borrow.Author.Tests.{lt-ltb, le-ltb, ne-eqb, not-false, eqb-true, ltb-true}
 use lib.Dec.{ltb, eqb}
 use lib.ListN.{length, take, drop, length-append}
 use lib.Seq.{getD-take, getD-drop}
-use Rattle.numbers.specs.Words.{word, allTo, firstLarge, outside, lowWord, AllBelow}
+use Rattle.numbers.specs.Words.{word, allTo, firstLarge, outside, lowWord}
+use Rattle.numbers.specs.internal.Facts.{AllBelow}
 use Rattle.numbers.specs.Refusals.{Check, check, judge, refusal, modulusChecks, unreduced, widthCheck}
 use Rattle.numbers.specs.declared.refusal.Verdict.the-variants.{Pass, Refuse}
 use Rattle.numbers.proofs.WordsLaws.{below-append, large-first, large-second, large-le}
@@ -28,7 +29,8 @@ use Rattle.numbers.specs.Limits.{largestModulus, largestDegree, largestWidth}
 use Rattle.rows.proofs.RowsLaws.{length-part, row-fits}
 use Rattle.rows.specs.Rows.{unit}
 use Rattle.sheet.specs.Sheet.{Given, given-polynomial}
-use Rattle.open.specs.Open.{openVerdict, isUnit, rising, sizeChecks, polynomialChecks, listChecks, splitChecks}
+use Rattle.open.specs.Open.{openVerdict, rising, sizeChecks, polynomialChecks, listChecks, splitChecks}
+use Rattle.open.specs.internal.Opening.{isUnit}
 
 -- the rows that only open has: 5, 6, 7 and 8
 abbrev pub longCheck : Given → Check

@@ -16,10 +16,10 @@ use Rattle.numbers.specs.declared.refusal.Verdict.the-variants.{Pass, Refuse}
 use Rattle.numbers.proofs.RefusalsLaws.{pass-parts}
 use Rattle.numbers.specs.Limits.{largestDegree}
 use Rattle.sheet.specs.Sheet.{Given}
-use Rattle.sheet.proofs.ContentLaws.{size}
+use Rattle.sheet.specs.internal.Content.{size}
 use Rattle.open.specs.Open.{powersOf, needed, openVerdict, OpenDone, Opened, polynomialChecks, listChecks, splitChecks}
-use Rattle.open.specs.Opening.{CheckedOpen}
-use Rattle.open.specs.Writing.{freshContent, freshWords, FreshReady}
+use Rattle.open.specs.internal.Opening.{CheckedOpen}
+use Rattle.open.specs.internal.Writing.{freshContent, freshWords, FreshReady}
 use Rattle.open.proofs.OpenChecksLaws.{ListPass, list-pass, open-rows-split}
 use Rattle.open.proofs.OpenLaws.{found-count}
 use Rattle.open.proofs.OpeningLaws.{open-ready, openWords, open-done}

@@ -15,8 +15,9 @@ use mathlib.Core.Option.{Option, none, some}
 use mathlib.Core.List.{List, [], _∷_, _++_, map}
 use lib.ListN.{length}
 use lib.Seq.{ext-getD}
-use Rattle.algebra.specs.Sums.{sumTo, sumTo-zero, sumTo-front}
-use Rattle.algebra.specs.Fp.{Prime}
+use Rattle.algebra.specs.Sums.{sumTo}
+use Rattle.algebra.proofs.SumsLaws.{sumTo-zero, sumTo-front}
+use Rattle.algebra.specs.Prime.{Prime}
 use Rattle.numbers.specs.Words.{word}
 use Rattle.numbers.proofs.WordsLaws.{true-false}
 use Rattle.numbers.proofs.TestsLaws.{eqs}
@@ -25,7 +26,8 @@ use Rattle.layout.specs.Layout.{end}
 use Rattle.sheet.specs.Sheet.{Given, given-polynomial, Holds}
 use Rattle.open.specs.Open.{upwards, choices, find, splitsTest, powersOf, needed}
 use Rattle.sheet.proofs.SoundTestLaws.{upto, upto-back}
-use Rattle.sheet.proofs.ExistsLaws.{Splits, splits-unique}
+use Rattle.sheet.specs.internal.Content.{Splits}
+use Rattle.sheet.proofs.ExistsLaws.{splits-unique}
 
 -- of every list in a list
 abbrev Every : (List ℕ → Type 0) → List (List ℕ) → Type 0

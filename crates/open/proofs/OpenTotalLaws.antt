@@ -1,9 +1,9 @@
 -- For every input open's contract allows exactly one answer and one content of the slice.
 --   open-is       open's contract as two equations
---   open-total    so
+--   opened-one    so
 -- Assumes nothing.
 use Prim.Native.Nat.{ℕ}
-use mathlib.Core.Path.{_≡_, refl, sym, subst}
+use mathlib.Core.Path.{_≡_, refl, sym, subst, ap₂}
 use mathlib.Core.Logic.{_↔_}
 use mathlib.Core.List.{List}
 use lib.ListN.{length}
@@ -11,7 +11,7 @@ use Rattle.numbers.specs.Words.{over}
 use Rattle.numbers.specs.Refusals.{Outcome, result, written, Leaves}
 use Rattle.numbers.specs.declared.refusal.Verdict.{Verdict}
 use Rattle.numbers.specs.declared.refusal.Verdict.the-variants.{Pass, Refuse}
-use Rattle.numbers.proofs.RefusalsLaws.{One}
+use Rattle.numbers.specs.One.{OneOutcome}
 use Rattle.sheet.specs.Sheet.{Given}
 use Rattle.open.specs.Open.{needed, openVerdict, OpenDone, Opened}
 use Rattle.open.proofs.OpeningLaws.{open-ready, openWords, open-done, open-only}
@@ -29,10 +29,8 @@ module _ (g : Given) (old : List ℕ) where
           (open-only g old (h .0) (h .1) new, λ q. subst (λ n. OpenDone g old n (needed g)) (sym q) (open-done g old (h .0) (h .1)))
       go (Refuse r) e = (λ q. q, λ q. q)
 
-  pub open-total : One (Opened g old)
-  open-total = record {
-    answer = result verdict (needed g);
-    left = written verdict (over (openWords g) old) old;
-    there = open-is _ _ .1 (refl, refl);
-    only = λ a new x. open-is a new .0 x;
-  }
+  pub opened-one : OneOutcome (Opened g old)
+  opened-one = (
+    (result verdict (needed g), written verdict (over (openWords g) old) old),
+    record { is = open-is _ _ .1 (refl, refl); only = λ y x. let z = open-is (y .0) (y .1) .0 x in ap₂ (λ a s. (a, s)) (z .0) (z .1) },
+  )

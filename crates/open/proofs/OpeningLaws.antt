@@ -24,10 +24,11 @@ use Rattle.layout.specs.Layout.{modulus, degree, width, terms, count}
 use Rattle.sheet.specs.Sheet.{Given, given-polynomial, Holds}
 use Rattle.open.specs.Open.{powersOf, isNone, needed, openVerdict, OpenDone, polynomialChecks, listChecks, splitChecks}
 use Rattle.layout.proofs.RegionsLaws.{in-rows}
-use Rattle.sheet.proofs.ContentLaws.{Content, size, sheetWords, length-sheet}
+use Rattle.sheet.specs.internal.Content.{Content, size, sheetWords, built, start, Ready}
+use Rattle.sheet.proofs.ContentLaws.{length-sheet}
 use Rattle.sheet.proofs.SheetsLaws.{Good, words-content, words-end, words-sound}
 use Rattle.sheet.proofs.UniqueLaws.{holds-unique}
-use Rattle.sheet.proofs.BuildLaws.{built, start, Ready, solved, solved-good, start-good}
+use Rattle.sheet.proofs.BuildLaws.{solved, solved-good, start-good}
 use Rattle.open.proofs.OpenChecksLaws.{list-pass, open-rows-split}
 use Rattle.open.proofs.OpenLaws.{powers-are, needed-is}
 

@@ -13,19 +13,22 @@ use mathlib.Core.Bool.{Bool}
 use mathlib.Core.List.{List, _++_}
 use lib.ListN.{length, take, length-append, List·getD-eq-default}
 use lib.Seq.{length-take-le, take-at}
-use Rattle.algebra.specs.Ring.{CommRing, prod}
-use Rattle.algebra.specs.Series.{Series}
-use Rattle.algebra.specs.Poly.{linPow}
-use Rattle.algebra.specs.Chain.{at-zero, at-zero-below}
-use Rattle.algebra.specs.Fp.{Prime, Fp, p-pos, rem}
-use Rattle.algebra.specs.Bridge.{same-rem, rem-zero}
-use Rattle.numbers.specs.Words.{word, tabulate, AllBelow}
+use Rattle.algebra.specs.internal.Ring.{CommRing, prod}
+use Rattle.algebra.specs.internal.Series.{Series}
+use Rattle.algebra.specs.internal.Poly.{linPow}
+use Rattle.algebra.proofs.Chain.{at-zero, at-zero-below}
+use Rattle.algebra.specs.Prime.{Prime}
+use Rattle.algebra.specs.internal.Fp.{Fp, rem}
+use Rattle.algebra.proofs.FpLaws.{p-pos}
+use Rattle.algebra.proofs.BridgeLaws.{same-rem, rem-zero}
+use Rattle.numbers.specs.Words.{word, tabulate}
+use Rattle.numbers.specs.internal.Facts.{AllBelow}
 use Rattle.numbers.proofs.WordsLaws.{length-tabulate, word-tabulate}
 use Rattle.numbers.specs.Limits.{mostRows}
 use Rattle.rows.proofs.RowsLaws.{row-fits}
 use Rattle.sheet.specs.Sheet.{Given, given-polynomial}
-use Rattle.open.specs.Opening.{PowersAnswer}
-use Rattle.powers.specs.Powers.{overField, GivesPowers, FoundPowers}
+use Rattle.open.specs.internal.Opening.{PowersAnswer}
+use Rattle.powers.specs.internal.Powers.{overField, GivesPowers, FoundPowers}
 use Rattle.hensel.proofs.FactorsLaws.{product-lt, rootsOf}
 use Rattle.sheet.proofs.ExistsLaws.{split-rem}
 use Rattle.open.proofs.OpenChecksLaws.{ListPass}
@@ -47,7 +50,7 @@ module _ (g : Given) (prime : Prime (g .p)) (up : Rising g) (low : Reduced g) (e
     degree = let s = G .sum in omega arith;
     splits = λ j l.
         same-rem (g .p) pos (product-lt (g .p) (length (g .roots)) _ (prime .two-le) j zero) (reduced j l)
-        (ap (λ x. x j) (split-rem prime (length (g .roots)) (word (g .roots)) m low ∙ sym (G .product prime)))
+        (ap (λ x. x j) (split-rem prime (length (g .roots)) (word (g .roots)) m low ∙ sym (G .product pos)))
         ∙ column j l;
   }
 
@@ -55,9 +58,9 @@ module _ (g : Given) (prime : Prime (g .p)) (up : Rising g) (low : Reduced g) (e
   splits-gives m S = record {
     low = S .powers;
     sum = let s = S .degree in omega arith;
-    product = λ prime′. subst
+    product = λ pos′. subst
         (λ (w : zero < g .p). overField (g .p) w e ≡ prod (Series (Fp (g .p) w)) (length (g .roots)) (λ l. linPow (Fp (g .p) w) (rem (g .p) w (word (g .roots) l)) (m l)))
-        (le-prop (p-pos prime) (p-pos prime′)) (fun-ext (λ j. go j (decLe j (g .D))));
+        (le-prop pos pos′) (fun-ext (λ j. go j (decLe j (g .D))));
   }
     where
       go : (j : ℕ) → Dec (j ≤ g .D) → overField (g .p) pos e j ≡ at-zero K (length (g .roots)) (rootsOf prime (word (g .roots))) m j

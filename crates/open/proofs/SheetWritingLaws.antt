@@ -13,18 +13,20 @@ use mathlib.Core.Option.{some}
 use mathlib.Core.List.{List, _++_, append-assoc}
 use lib.ListN.{length, take, drop, length-append, length-drop}
 use lib.Seq.{length-take-le}
-use Rattle.algebra.specs.Sums.{sumTo, sumTo-suc}
+use Rattle.algebra.specs.Sums.{sumTo}
+use Rattle.algebra.proofs.SumsLaws.{sumTo-suc}
 use Rattle.numbers.specs.Words.{word, over}
 use Rattle.numbers.proofs.WordsLaws.{Writing, writing-part, length-over, over-whole}
 use Rattle.numbers.specs.Limits.{largestDegree}
 use Rattle.rows.specs.Rows.{rowsOf, table}
 use Rattle.rows.proofs.RowsLaws.{rows-below, length-table, table-ext, table-rows}
-use Rattle.layout.specs.Layout.{rootsFrom, polynomialFrom, factorsFrom, headerOf, rootTable}
+use Rattle.layout.specs.Layout.{rootsFrom, polynomialFrom, factorsFrom, headerOf}
+use Rattle.layout.specs.internal.Places.{rootTable}
 use Rattle.layout.proofs.PlacesLaws.{count-sum}
 use Rattle.sheet.specs.Sheet.{Given, given-polynomial}
-use Rattle.sheet.proofs.ContentLaws.{size, entry, sheetWords}
+use Rattle.sheet.specs.internal.Content.{size, entry, sheetWords}
 use Rattle.open.specs.Open.{powersOf, needed}
-use Rattle.open.specs.Writing.{degreeOf, factorTable, freshContent, freshWords, FreshReady}
+use Rattle.open.specs.internal.Writing.{degreeOf, factorTable, freshContent, freshWords, FreshReady}
 use Rattle.open.proofs.OpeningLaws.{orNil, GivenReady, openWords}
 
 -- with the powers found

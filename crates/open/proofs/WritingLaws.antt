@@ -11,16 +11,18 @@ use mathlib.Core.Path.{_≡_, refl, sym, _∙_, ap}
 use mathlib.Core.List.{List, _++_, append-assoc, append-nil}
 use lib.ListN.{length, take, drop, length-append, length-drop}
 use lib.Seq.{ext-getD, getD-take, take-at, length-take-le}
-use Rattle.algebra.specs.Sums.{sumTo, sumTo-zero, sumTo-suc, sumTo-mono}
+use Rattle.algebra.specs.Sums.{sumTo}
+use Rattle.algebra.proofs.SumsLaws.{sumTo-zero, sumTo-suc, sumTo-mono}
 use Rattle.numbers.specs.Words.{word, tabulate, over}
 use Rattle.numbers.proofs.WordsLaws.{length-tabulate, word-tabulate, tabulate-ext, Writing, writing-none, writing-part, over-whole}
 use Rattle.numbers.specs.Limits.{largestDegree, mostRows}
 use Rattle.rows.specs.Rows.{table}
 use Rattle.rows.proofs.RowsLaws.{zeros, table-none, length-table, table-ext}
-use Rattle.columns.specs.Column.{firstOnly}
+use Rattle.columns.specs.internal.Column.{firstOnly}
 use Rattle.hensel.specs.Factors.{rootPower, flat}
-use Rattle.sheet.proofs.BuildLaws.{start, stacked, stacked-is, cut, cut-low, cut-high}
-use Rattle.open.specs.Writing.{degreeOf, factorTable}
+use Rattle.sheet.specs.internal.Content.{start, stacked, cut}
+use Rattle.sheet.proofs.BuildLaws.{stacked-is, cut-low, cut-high}
+use Rattle.open.specs.internal.Writing.{degreeOf, factorTable}
 use Rattle.powers.proofs.LineLaws.{front-words}
 
 table-append : (a b N : ℕ) (f : ℕ → ℕ → ℕ) → table (a + b) N f ≡ table a N f ++ table b N (λ j. f (a + j))

@@ -1,3 +1,2 @@
 pub mod Open
-pub mod Opening
-pub mod Writing
+pub mod internal

@@ -1,8 +1,15 @@
 -- What open answers and leaves.
---   powersOf g         powers, all 1 or more, of the listed roots that give f at X = 0, where there are any
+--   upwards n f        the lists f 1, f 2, .., f n, one after the other
+--   choices r D        the lists of r numbers, each 1 or more, whose sum is D
+--   find test ls       the first of the lists that passes the test, where there is one
+--   splitsTest g l     with these powers of its lines Y − c the polynomial at X = 0 is their product
+--   powersOf g         such powers, none of them 0, where there are any
+--   isNone o           there are none
 --   needed g           T
---   polynomialChecks, listChecks, splitChecks, openChecks   the checks: refusals 1 to 6, 7 and 8, 9 and 10, and all of them
---   isUnit s, rising s the words of s are 1, 0, 0, ..; they rise
+--   rising s           the words of s rise
+--   polynomialChecks, listChecks, splitChecks, openChecks   the checks: refusals 1 to 6, of which sizeChecks are 3 to 6; 7 and 8; 9 and 10; and all of them
+--   openVerdict g room what they come to
+--   OpenDone           what an accepted call leaves: the sheet of what is given, with one term; no word past T is changed
 --   Opened             open's answer and the words at exit
 -- Assumes nothing.
 use Prim.Native.Nat.{ℕ, zero, suc, _+_, _-_, _*_}
@@ -21,11 +28,11 @@ use Rattle.hensel.specs.Factors.{split}
 use Rattle.layout.specs.Layout.{total, end}
 use Rattle.sheet.specs.Sheet.{Given, given-polynomial, Holds}
 
--- the lists of r numbers, each 1 or more, whose sum is D
 unfoldable pub upwards : ℕ → (ℕ → List (List ℕ)) → List (List ℕ)
 upwards zero f = []
 upwards (suc n) f = upwards n f ++ f (suc n)
 
+-- the lists of r numbers, each 1 or more, whose sum is D
 unfoldable pub choices : ℕ → ℕ → List (List ℕ)
 choices zero zero = [] ∷ []
 choices zero (suc D) = []
@@ -35,7 +42,7 @@ unfoldable pub find : (List ℕ → Bool) → List (List ℕ) → Option (List �
 find test [] = none
 find test (l ∷ ls) = elim (test l) [ true ↦ some l | false ↦ find test ls ]
 
--- these powers of the listed roots give f at X = 0
+-- f at X = 0 is the product of the lines with these powers
 unfoldable pub splitsTest : Given → List ℕ → Bool
 splitsTest g powers = allTo (suc (g .D)) (λ j. eqb (split (g .p) (length (g .roots)) (word (g .roots)) (word powers) j) (given-polynomial g j zero))
 
@@ -49,10 +56,6 @@ isNone (some a) = false
 -- T, from what open is given
 unfoldable pub needed : Given → ℕ
 needed g = total (g .D) (g .N) (length (g .roots))
-
--- the words are 1, 0, 0, ..; they rise
-abbrev pub isUnit : List ℕ → Bool
-isUnit s = allTo (length s) (λ t. eqb (word s t) (unit t))
 
 abbrev pub rising : List ℕ → Bool
 rising s = allTo (length s - 1) (λ i. ltb (word s i) (word s (suc i)))
@@ -79,10 +82,7 @@ listChecks g =
 
 -- refusals 9 and 10; `room` is the length of the output
 abbrev pub splitChecks : Given → ℕ → List Check
-splitChecks g room =
-    check 9 (isNone (powersOf g)) 0
-    ∷ roomCheck room (needed g)
-    ∷ []
+splitChecks g room = check 9 (isNone (powersOf g)) 0 ∷ roomCheck room (needed g) ∷ []
 
 abbrev pub openChecks : Given → ℕ → List Check
 openChecks g room = polynomialChecks g ++ (listChecks g ++ splitChecks g room)

@@ -20,8 +20,8 @@ ghost use Rattle.numbers.specs.Refusals.{judge, outcome};
 ghost use Rattle.numbers.specs.declared.refusal.Verdict.the-variants.{Pass};
 ghost use Rattle.numbers.specs.Limits.{largestDegree};
 ghost use Rattle.sheet.specs.Sheet.{givenOf};
-ghost use Rattle.open.specs.Open.{isUnit, rising, polynomialChecks, listChecks};
-ghost use Rattle.open.specs.Opening.{PowersAnswer, CheckedOpen};
+ghost use Rattle.open.specs.internal.Opening.{isUnit, PowersAnswer, CheckedOpen};
+ghost use Rattle.open.specs.Open.{rising, polynomialChecks, listChecks};
 
 // The words are 1, 0, 0, ..
 fn is_unit(s: &[u32]) -> bool

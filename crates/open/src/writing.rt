@@ -8,13 +8,15 @@ use powers::root_power;
 ghost use mathlib.Core.Path.{_≡_};
 ghost use Prim.Native.Nat.{_+_, _*_, _≤_, _<_};
 ghost use lib.ListN.{length};
-ghost use Rattle.numbers.specs.Words.{word, over, AllBelow};
-ghost use Rattle.numbers.specs.Limits.{modulusBound, largestDegree, mostRows, largestWidth};
+ghost use Rattle.numbers.specs.Words.{word, over};
+ghost use Rattle.numbers.specs.internal.Facts.{AllBelow};
+ghost use Rattle.numbers.specs.internal.Limits.{modulusBound};
+ghost use Rattle.numbers.specs.Limits.{largestDegree, mostRows, largestWidth};
 ghost use Rattle.rows.specs.Rows.{table};
 ghost use Rattle.hensel.specs.Factors.{rootPower, flat};
 ghost use Rattle.sheet.specs.Sheet.{givenOf};
-ghost use Rattle.sheet.proofs.ContentLaws.{size};
-ghost use Rattle.open.specs.Writing.{degreeOf, factorTable, freshContent, freshWords, FreshReady};
+ghost use Rattle.sheet.specs.internal.Content.{size};
+ghost use Rattle.open.specs.internal.Writing.{degreeOf, factorTable, freshContent, freshWords, FreshReady};
 
 // Rows with this first column, and 0 past it.
 fn spread(column: &[u32], n: usize, out: &mut [u32])

@@ -1,31 +1,40 @@
 -- What `pair` and `pair_continue` answer and leave.
+--   flat-first                  an example where 11 and 14 both apply: pair refuses by 11
 --   pair-pass, continue-pass    what the checks say of the input where they pass
 --   lifting-of                  what the lift wants, from the checks
---   done-unique, continued-keeps   continuing and starting agree; only columns h..w − 1 change
+--   done-unique, done-keeps     continuing and starting agree; only columns h..w − 1 change
 --   start-done                  column 0 of f over the first words is the pair to one term
 -- Assumes nothing.
 use Prim.Native.Nat.{ℕ, zero, _+_, _*_, _≤_, _<_}
 use native.Mathlib.Omega.{arith}
-use mathlib.Core.Path.{_≡_, sym, ap, _∙_}
+use mathlib.Core.Path.{_≡_, refl, sym, ap, _∙_}
 use mathlib.Core.Bool.{not}
 use mathlib.Core.List.{List, [], _∷_}
 use borrow.Author.Tests.{ltb-false, not-false}
 use mathlib.Core.Logic.{_⊎_, ⊎-elim}
 use lib.ListN.{length, take, drop, List·getD-append}
 use lib.Seq.{drop-at}
-use Rattle.algebra.specs.Fp.{Prime}
-use Rattle.numbers.specs.Words.{word, over, outside}
-use Rattle.numbers.specs.Refusals.{judge, beyondCheck, behindCheck}
-use Rattle.numbers.specs.declared.refusal.Verdict.the-variants.{Pass}
+use Rattle.algebra.specs.Prime.{Prime}
+use Rattle.numbers.specs.Words.{word, over, outside, firstWhere, firstLarge}
+use Rattle.numbers.specs.Divisor.{leastDivisor}
+use Rattle.numbers.specs.Refusals.{judge, refusal, beyondCheck, behindCheck}
+use Rattle.numbers.specs.declared.refusal.Verdict.the-variants.{Pass, Refuse}
 use Rattle.numbers.proofs.WordsLaws.{length-over}
 use Rattle.numbers.proofs.RefusalsLaws.{pass-parts, pass-check, neither, inside}
-use Rattle.rows.specs.Rows.{table}
+use Rattle.rows.specs.Rows.{rowsOf, table}
 use Rattle.rows.proofs.RowsLaws.{length-table, word-table, row-fits}
-use Rattle.pair.specs.Pair.{order, firstChecks, pairChecks, continueChecks, pairTest, PairWords, PairDone}
-use Rattle.pair.specs.Lifting.{startRows, Lifting}
+use Rattle.pair.specs.Pair.{orderOf, order, PairWords}
+use Rattle.pair.specs.Paired.{firstChecks, pairChecks, continueChecks, PairDone}
+use Rattle.pair.specs.Test.{pairTest}
+use Rattle.pair.specs.internal.Lifting.{startRows, Lifting}
 use Rattle.pair.proofs.TestLaws.{pairRow, FirstPass, first-pass}
 use Rattle.pair.proofs.LiftLaws.{start-words}
 use Rattle.pair.proofs.PairWordsLaws.{test-pair, words-unique, words-agree}
+
+-- 0 modulo 2, one row of one word, and two terms wanted
+pub flat-first : judge (pairChecks 2 0 1 (0 ∷ []) 2 1) ≡ Refuse (refusal 11 0)
+unfolding judge leastDivisor firstLarge firstWhere rowsOf orderOf
+flat-first = refl
 
 pub lifting-of : {p D N : ℕ} {f : List ℕ} {room d t : ℕ} {s : List ℕ} → FirstPass p D N f room → d ≡ order D N f → room ≤ length s → PairWords p D N f t s → Lifting p D N f d t s
 lifting-of first e fits words =
@@ -107,8 +116,8 @@ done-unique p D N f w old new old′ new′ prime width l l′ h h′ =
     words-unique p D N f prime w new new′ width (h .words) (h′ .words) (omega arith) (omega arith)
 
 -- Where h terms were there, only the columns h..w − 1 change.
-pub continued-keeps : (p D N : ℕ) (f : List ℕ) (h w : ℕ) (old new : List ℕ) → Prime p → h ≤ w → PairWords p D N f h old → PairDone p D N f w old new
+pub done-keeps : (p D N : ℕ) (f : List ℕ) (h w : ℕ) (old new : List ℕ) → Prime p → h ≤ w → PairWords p D N f h old → PairDone p D N f w old new
     → (j : ℕ) → j < D + 1 → (t : ℕ) → t < N → (t < h) ⊎ (w ≤ t) → word new (j * N + t) ≡ word old (j * N + t)
-continued-keeps p D N f h w old new prime l before done j g t u =
+done-keeps p D N f h w old new prime l before done j g t u =
     ⊎-elim (λ v. words-agree p D N f prime w h new old (done .words) before j g t (omega arith) v)
     (λ v. done .words .rest j g t v u ∙ sym (before .rest j g t (omega arith) u))

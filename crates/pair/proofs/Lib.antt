@@ -5,3 +5,4 @@ pub mod ProductLaws
 pub mod TestLaws
 pub mod PartLaws
 pub mod AnswerLaws
+pub mod OneLaws

@@ -12,10 +12,13 @@ use mathlib.Core.Logic.{_≢_, _⊎_, ⊎-elim}
 use mathlib.Core.List.{List, _++_}
 use lib.ListN.{length, take, drop, length-take, length-drop, length-append, List·getD-eq-default}
 use lib.Seq.{ext-getD, getD-take, getD-drop, length-take-le, take-at, drop-append-le}
-use Rattle.algebra.specs.Fp.{Prime, Fp, p-pos}
-use Rattle.algebra.specs.Bridge.{same-rem, rem-zero}
-use Rattle.algebra.specs.Poly.{linPow}
-use Rattle.numbers.specs.Words.{word, tabulate, over, AllBelow}
+use Rattle.algebra.specs.Prime.{Prime}
+use Rattle.algebra.specs.internal.Fp.{Fp}
+use Rattle.algebra.proofs.FpLaws.{p-pos}
+use Rattle.algebra.proofs.BridgeLaws.{same-rem, rem-zero}
+use Rattle.algebra.specs.internal.Poly.{linPow}
+use Rattle.numbers.specs.Words.{word, tabulate, over}
+use Rattle.numbers.specs.internal.Facts.{AllBelow}
 use Rattle.numbers.specs.Divisor.{inverseOf}
 use Rattle.numbers.proofs.WordsLaws.{lt-or-ge, length-tabulate, word-tabulate, length-over, from, length-from, word-from}
 use Rattle.numbers.specs.Limits.{mostRows}
@@ -23,12 +26,13 @@ use Rattle.numbers.proofs.RefusalsLaws.{few-words}
 use Rattle.rows.proofs.ShiftLaws.{root-power}
 use Rattle.series.proofs.QuotientLaws.{inverse-law}
 use Rattle.rows.specs.Rows.{mul, linePower, unit, monic}
-use Rattle.rows.specs.Passes.{passSum}
+use Rattle.rows.specs.internal.Passes.{passSum}
 use Rattle.rows.proofs.RowsLaws.{rows-below, rows-past, rows-bound, line-lt}
 use Rattle.rows.proofs.MulLaws.{mul-ext}
-use Rattle.pair.specs.Pair.{order, given, lowRows, highRows, PairWords, PairDone}
-use Rattle.columns.specs.Column.{hornerWord, hornerWords, digits, undigits, middleSum, lowPart, highPart, Solves, ColumnStored, Prepared, firstOnly}
-use Rattle.pair.specs.Lifting.{startRows, Lifting}
+use Rattle.pair.specs.Pair.{order, given, lowRows, highRows, PairWords}
+use Rattle.pair.specs.Paired.{PairDone}
+use Rattle.columns.specs.internal.Column.{hornerWord, hornerWords, digits, undigits, middleSum, lowPart, highPart, Solves, ColumnStored, Prepared, firstOnly}
+use Rattle.pair.specs.internal.Lifting.{startRows, Lifting}
 use Rattle.rows.proofs.MonicLaws.{monic-low, monic-top, monic-above, monic-later, monic-ext, by-place}
 use Rattle.pair.proofs.PairLaws.{first-high, first-low, monic-first}
 use Rattle.pair.proofs.PairWordsLaws.{order-there, order-least, low-word, high-word, high-past}

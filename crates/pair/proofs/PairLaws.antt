@@ -11,13 +11,16 @@ use native.Mathlib.Decide.{decLe}
 use native.Mathlib.Omega.{arith}
 use mathlib.Core.Path.{_≡_, refl, sym, _∙_, ap, ap₂, subst, fun-ext}
 use mathlib.Core.Logic.{_≢_}
-use Rattle.algebra.specs.Ring.{CommRing, mul-one}
-use Rattle.algebra.specs.Series.{Series, conv-zero}
-use Rattle.algebra.specs.Poly.{Below, linPow, eval, yPow-high, yPow-low, eval-zero, linPow-top, below-linPow}
-use Rattle.algebra.specs.Columns.{Columns, mul-columns, conv-below}
-use Rattle.algebra.specs.Lift.{Factor, factor-unique, factor-exists}
-use Rattle.algebra.specs.Fp.{Prime, Fp, p-pos, Fp-field, rem, rem-val}
-use Rattle.algebra.specs.Bridge.{col, same-rem, rem-zero, rem-one}
+use Rattle.algebra.specs.internal.Ring.{CommRing, mul-one}
+use Rattle.algebra.specs.internal.Series.{Series, conv-zero}
+use Rattle.algebra.proofs.PolyLaws.{Below, eval, yPow-high, yPow-low, eval-zero, linPow-top, below-linPow}
+use Rattle.algebra.specs.internal.Poly.{linPow, Columns}
+use Rattle.algebra.proofs.ColumnsLaws.{mul-columns, conv-below}
+use Rattle.algebra.proofs.Lift.{Factor, factor-unique, factor-exists}
+use Rattle.algebra.specs.Prime.{Prime}
+use Rattle.algebra.specs.internal.Fp.{Fp, rem, col}
+use Rattle.algebra.proofs.FpLaws.{p-pos, Fp-field, rem-val}
+use Rattle.algebra.proofs.BridgeLaws.{same-rem, rem-zero, rem-one}
 use Rattle.rows.specs.Rows.{mul, unit, monic}
 use Rattle.rows.proofs.MulLaws.{mul-rem, mul-lt}
 use Rattle.pair.specs.Pair.{IsPair}

@@ -1,6 +1,7 @@
 -- The pair as words.
 --   order-there, order-least   what the order is
 --   low-word, high-word        the rows of P below Y^d and of A, in the words
+--   words-ext                  any list that begins with the words of a pair has that pair
 --   words-same                 the pair's words are determined, column by column
 --   pair-one                   for every f that is not flat and every number of terms there is exactly one pair, as words
 --   pair-test                  PairWords and pairTest are one
@@ -16,15 +17,18 @@ use borrow.Author.Tests.{ne-eqb, eqb-true, eqb-false, not-true, not-false, lt-lt
 use lib.Dec.{eqb, ltb}
 use lib.ListN.{length, take, drop}
 use lib.Seq.{ext-getD, getD-take, getD-drop, length-take-le}
-use Rattle.algebra.specs.Fp.{Prime, p-pos}
-use Rattle.numbers.specs.Words.{word, choose, AllBelow}
+use Rattle.algebra.specs.Prime.{Prime}
+use Rattle.algebra.proofs.FpLaws.{p-pos}
+use Rattle.numbers.specs.Words.{word, choose}
+use Rattle.numbers.specs.internal.Facts.{AllBelow}
 use Rattle.numbers.proofs.WordsLaws.{lt-or-ge, first-before, first-found}
 use Rattle.numbers.proofs.TestsLaws.{all-at, all-of, _&_, none-left, square}
 use Rattle.rows.specs.Rows.{table, mul, monic}
 use Rattle.rows.proofs.RowsLaws.{rows-below, rows-past, rows-bound, length-table, word-table, by-row}
 use Rattle.rows.proofs.RowsBelowLaws.{rowsBelow-at, at-rowsBelow}
 use Rattle.rows.proofs.MulLaws.{mul-ext}
-use Rattle.pair.specs.Pair.{orderOf, order, given, lowRows, highRows, IsPair, PairWords, productTest, pairTest}
+use Rattle.pair.specs.Pair.{orderOf, order, given, lowRows, highRows, IsPair, PairWords}
+use Rattle.pair.specs.Test.{productTest, pairTest}
 use Rattle.rows.proofs.MonicLaws.{monic-ext}
 use Rattle.pair.proofs.PairLaws.{pair-unique, pair-b, pair-c, pair-lt, pair-is}
 
@@ -61,6 +65,22 @@ pair-ext p D k d f b b′ c c′ pos eb ec height h = record {
   same = λ j l t g.
       mul-ext p (monic d b′) (monic d b) c′ c j t (λ i s _ u. monic-ext d b′ b s (λ i v. eb i v s (omega arith)) i) (λ i s _ u. ec i s (omega arith)) ∙ h .same j l t g;
 }
+
+-- the pair's words are looked at in the D + 1 rows only
+pub words-ext : (p D N : ℕ) (f : List ℕ) (k : ℕ) (s s′ : List ℕ) → 1 ≤ k → k ≤ N → ((j : ℕ) → j < D + 1 → (t : ℕ) → t < N → word s′ (j * N + t) ≡ word s (j * N + t))
+    → PairWords p D N f k s → PairWords p D N f k s′
+words-ext p D N f k s s′ one fits at h =
+    let d = order D N f in
+    let b = h .pair .bound in
+    record {
+      pair = pair-ext p D k d (given D N f) (lowRows N d s) (lowRows N d s′) (highRows D N d s) (highRows D N d s′) one
+          (λ j l t g. low-word N d s′ j t l ∙ at j (omega arith) t (omega arith) ∙ sym (low-word N d s j t l))
+          (λ j t g. ⊎-elim (λ l. high-word D N d s′ j t l ∙ at (d + j) l t (omega arith) ∙ sym (high-word D N d s j t l))
+          (λ l. high-past D N d s′ j t (omega arith) ∙ sym (high-past D N d s j t (omega arith))) (lt-or-ge (d + j) (D + 1)))
+          (λ j t l. high-past D N d s′ j t l) (h .pair);
+      reduced = λ j l t g. subst (λ x. x < p) (sym (at j l t (omega arith))) (h .reduced j l t g);
+      rest = λ j l t g u. at j l t u ∙ h .rest j l t g u;
+    }
 
 module _ (p D N : ℕ) (f : List ℕ) (prime : Prime p) where
   abbrev d : ℕ
@@ -140,6 +160,10 @@ module _ (p D N : ℕ) (f : List ℕ) (prime : Prime p) where
     pub pairWords : ℕ → List ℕ
     pairWords k = table (D + 1) N (row k)
 
+    pub length-pair : (k : ℕ) → length (pairWords k) ≡ (D + 1) * N
+    unfolding pairWords
+    length-pair k = length-table (D + 1) N (row k)
+
     word-at : (k j t : ℕ) → j < D + 1 → t < N → word (pairWords k) (j * N + t) ≡ row k j t
     unfolding pairWords
     word-at k j t l g = word-table (D + 1) N (row k) j t l g
@@ -160,10 +184,9 @@ module _ (p D N : ℕ) (f : List ℕ) (prime : Prime p) where
     -- exactly one
     pub pair-one : (k : ℕ) → 1 ≤ k → k ≤ N
         → PairWords p D N f k (pairWords k) × ((s : List ℕ) → (D + 1) * N ≤ length s → PairWords p D N f k s → take ((D + 1) * N) s ≡ take ((D + 1) * N) (pairWords k))
-    unfolding pairWords
     pair-one k one fits = (
       pair-words k one fits,
-      λ s l h. words-unique k s (pairWords k) width h (pair-words k one fits) l (let z = length-table (D + 1) N (row k) in omega arith),
+      λ s l h. words-unique k s (pairWords k) width h (pair-words k one fits) l (omega (arith, length-pair k)),
     )
 
   -- PairWords and the test that computes

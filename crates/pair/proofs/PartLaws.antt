@@ -10,14 +10,16 @@ use native.Mathlib.Omega.{arith}
 use lib.Dec.{eqb}
 use lib.ListN.{length, take, drop, length-drop}
 use lib.Seq.{getD-take, getD-drop, length-take-le}
-use Rattle.numbers.specs.Words.{word, tabulate, allTo, AllBelow}
+use Rattle.numbers.specs.Words.{word, tabulate, allTo}
+use Rattle.numbers.specs.internal.Facts.{AllBelow}
 use Rattle.numbers.proofs.WordsLaws.{lt-or-ge, tabulate-ext}
 use Rattle.numbers.proofs.TestsLaws.{allTo-false, at-allTo, allTo-ext}
 use Rattle.rows.specs.Rows.{rowsOf, mul, monic}
 use Rattle.rows.proofs.RowsLaws.{rows-below, rows-past, row-fits, by-row}
 use Rattle.rows.proofs.MulLaws.{mul-ext}
-use Rattle.pair.specs.Pair.{given, lowRows, highRows, PairWords, productTest}
-use Rattle.columns.specs.Column.{middleSum}
+use Rattle.pair.specs.Pair.{given, lowRows, highRows, PairWords}
+use Rattle.pair.specs.Test.{productTest}
+use Rattle.columns.specs.internal.Column.{middleSum}
 use Rattle.rows.proofs.MonicLaws.{monic-ext}
 use Rattle.columns.proofs.SolveLaws.{pass-ext}
 use Rattle.columns.proofs.ColumnLaws.{gatherAt}

@@ -9,12 +9,15 @@ use native.Mathlib.Numerals.{add-one}
 use native.Mathlib.Omega.{arith}
 use borrow.Author.Tests.{lt-ltb, le-ltb, eq-eqb, ne-eqb}
 use lib.Dec.{ltb, eqb}
-use Rattle.algebra.specs.Sums.{sumTo, sumTo-suc, sumTo-front, sumTo-ext, sumTo-zeros, sumTo-add}
-use Rattle.numbers.specs.Words.{choose, AllBelow}
+use Rattle.algebra.specs.Sums.{sumTo}
+use Rattle.algebra.proofs.SumsLaws.{sumTo-suc, sumTo-front, sumTo-ext, sumTo-zeros, sumTo-add}
+use Rattle.numbers.specs.Words.{choose}
+use Rattle.numbers.specs.internal.Facts.{AllBelow}
 use Rattle.numbers.proofs.WordsLaws.{lt-or-ge}
-use Rattle.numbers.specs.Limits.{modulusBound, largestWidth}
+use Rattle.numbers.specs.internal.Limits.{modulusBound}
+use Rattle.numbers.specs.Limits.{largestWidth}
 use Rattle.rows.specs.Rows.{rowsOf, mul, monic}
-use Rattle.rows.specs.Passes.{passSum}
+use Rattle.rows.specs.internal.Passes.{passSum}
 use Rattle.rows.proofs.RowsLaws.{passTerm, pass-column, rows-past, rows-bound, passes-bound}
 use Rattle.rows.proofs.MonicLaws.{monic-low, monic-top, monic-above, monic-later, by-place}
 

@@ -19,7 +19,9 @@ use Rattle.numbers.proofs.RefusalsLaws.{pass-parts, pass-check, Operation, oper
 use Rattle.rows.specs.Rows.{rowsOf, rowsBelow}
 use Rattle.rows.proofs.RowsLaws.{rows-below, by-row}
 use Rattle.rows.proofs.RowsBelowLaws.{rowsBelow-at}
-use Rattle.pair.specs.Pair.{orderOf, order, productTest, pairTest, firstChecks}
+use Rattle.pair.specs.Pair.{orderOf, order}
+use Rattle.pair.specs.Test.{productTest, pairTest}
+use Rattle.pair.specs.Paired.{firstChecks}
 
 -- the row that is not 0 at X = 0, and below which every row is
 pub order-is : (f : List ℕ) (n rows r : ℕ) → r ≤ rows → ((k : ℕ) → k < r → word f (k * n) ≡ 0) → (r < rows → word f (r * n) ≡ 0 → ⊥)

@@ -1,2 +1,4 @@
 pub mod Pair
-pub mod Lifting
+pub mod Test
+pub mod Paired
+pub mod internal

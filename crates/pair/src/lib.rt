@@ -11,13 +11,17 @@ ghost use mathlib.Core.Path.{_≡_};
 ghost use Prim.Native.Nat.{ℕ, _+_, _-_, _*_, _%_, _≤_, _<_};
 ghost use lib.ListN.{length};
 ghost use Rattle.numbers.specs.Refusals.{judge, outcome};
-ghost use Rattle.numbers.specs.Words.{word, allTo, tabulate, over, choose, AllBelow};
-ghost use Rattle.numbers.specs.Limits.{modulusBound, largestDegree, mostRows, largestWidth};
+ghost use Rattle.numbers.specs.Words.{word, allTo, tabulate, over, choose};
+ghost use Rattle.numbers.specs.internal.Facts.{AllBelow};
+ghost use Rattle.numbers.specs.internal.Limits.{modulusBound};
+ghost use Rattle.numbers.specs.Limits.{largestDegree, mostRows, largestWidth};
 ghost use lib.Dec.{ltb, eqb};
 ghost use Rattle.rows.specs.Rows.{rowsOf, table, mul, monic};
-ghost use Rattle.pair.specs.Pair.{orderOf, order, given, lowRows, highRows, firstChecks, pairChecks, continueChecks, productTest, pairTest, PairDone, Paired, Continued};
-ghost use Rattle.columns.specs.Column.{middleSum, Prepared};
-ghost use Rattle.pair.specs.Lifting.{startRows, Lifting};
+ghost use Rattle.pair.specs.Pair.{orderOf, order, given, lowRows, highRows};
+ghost use Rattle.pair.specs.Paired.{firstChecks, pairChecks, continueChecks, PairDone, Paired, Continued};
+ghost use Rattle.pair.specs.Test.{productTest, pairTest};
+ghost use Rattle.columns.specs.internal.Column.{middleSum, Prepared};
+ghost use Rattle.pair.specs.internal.Lifting.{startRows, Lifting};
 
 // The order of f: the first row that is not 0 at X = 0, or the number of rows.
 fn order_of(f: &[u32], n: usize, rows: usize) -> usize
@@ -257,6 +261,7 @@ fn check_pair(p: u32, d: u32, n: u32, f: &[u32], w: u32, room: usize) -> Verdict
 }
 
 // The pair of f to w terms, from nothing. The answer is d, the order of f.
+// The contract allows one outcome only: `paired-one` in proofs/OneLaws.
 pub fn pair(p: u32, d: u32, n: u32, f: &[u32], w: u32, out: &mut [u32]) -> Answer
     ensures { λ r. ⌜ Paired p d n (now (f .entry)) w (now (out .entry)) (outcome r) (now (out .exit)) ⌝ }
 {
@@ -272,6 +277,7 @@ pub fn pair(p: u32, d: u32, n: u32, f: &[u32], w: u32, out: &mut [u32]) -> Answe
 }
 
 // The pair of f to w terms, from its first h terms in out. Only columns h..w − 1 change.
+// The contract allows one outcome only, and no other columns to change: `continued-one` and `continued-keeps` in proofs/OneLaws.
 pub fn pair_continue(p: u32, d: u32, n: u32, f: &[u32], h: u32, w: u32, out: &mut [u32]) -> Answer
     ensures { λ r. ⌜ Continued p d n (now (f .entry)) h w (now (out .entry)) (outcome r) (now (out .exit)) ⌝ }
 {

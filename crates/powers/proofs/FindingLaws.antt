@@ -16,20 +16,27 @@ use borrow.Author.Tests.{eqb-true, eq-eqb}
 use lib.Dec.{eqb}
 use lib.ListN.{length, drop, set, length-drop, List·getD-eq-default}
 use lib.Seq.{getD-drop, getD-set-same, getD-set-other}
-use Rattle.algebra.specs.Sums.{sumTo, sumTo-zero, sumTo-suc, sumTo-ext}
-use Rattle.algebra.specs.Ring.{CommRing, prod, prod-zero, prodFrom, prodFrom-zero, prodFrom-suc}
-use Rattle.algebra.specs.Series.{Series, one-at}
-use Rattle.algebra.specs.Poly.{linPow, eval}
-use Rattle.algebra.specs.Multiplicity.{multiplicity-field}
-use Rattle.algebra.specs.Chain.{at-zero-below, at-zero-nonroot, rising-distinct}
-use Rattle.algebra.specs.Fp.{Prime, Fp, p-pos, Fp-field, rem}
-use Rattle.algebra.specs.Bridge.{same-rem, rem-zero, rem-one}
-use Rattle.numbers.specs.Words.{word, AllBelow}
+use Rattle.algebra.specs.Sums.{sumTo}
+use Rattle.algebra.proofs.SumsLaws.{sumTo-zero, sumTo-suc, sumTo-ext}
+use Rattle.algebra.specs.internal.Ring.{CommRing, prod}
+use Rattle.algebra.proofs.RingLaws.{prod-zero, prodFrom, prodFrom-zero, prodFrom-suc}
+use Rattle.algebra.specs.internal.Series.{Series}
+use Rattle.algebra.proofs.SeriesLaws.{one-at}
+use Rattle.algebra.specs.internal.Poly.{linPow}
+use Rattle.algebra.proofs.PolyLaws.{eval}
+use Rattle.algebra.proofs.Multiplicity.{multiplicity-field}
+use Rattle.algebra.proofs.Chain.{at-zero-below, at-zero-nonroot, rising-distinct}
+use Rattle.algebra.specs.Prime.{Prime}
+use Rattle.algebra.specs.internal.Fp.{Fp, rem}
+use Rattle.algebra.proofs.FpLaws.{p-pos, Fp-field}
+use Rattle.algebra.proofs.BridgeLaws.{same-rem, rem-zero, rem-one}
+use Rattle.numbers.specs.Words.{word}
+use Rattle.numbers.specs.internal.Facts.{AllBelow}
 use Rattle.numbers.proofs.WordsLaws.{true-false, lt-or-ge}
-use Rattle.columns.specs.Column.{hornerWords}
+use Rattle.columns.specs.internal.Column.{hornerWords}
 use Rattle.columns.proofs.ColumnLaws.{horner-words-at, horner-below, length-horner, drop-below}
 use Rattle.columns.proofs.SolveLaws.{below-pol, horner-poly}
-use Rattle.powers.specs.Powers.{overField, DividedOut, GivesPowers, FoundPowers}
+use Rattle.powers.specs.internal.Powers.{overField, DividedOut, GivesPowers, FoundPowers}
 use Rattle.hensel.proofs.FactorsLaws.{rootsOf, key, roots-rising}
 use Rattle.powers.proofs.PowersLaws.{horner-last}
 
@@ -69,7 +76,7 @@ module _ {p : ℕ} (prime : Prime p) (roots : List ℕ) (reduced : AllBelow p ro
     low = λ l g. absurd (let z : ⊥ = omega arith in z);
     sum = sumTo-zero (word powers);
     sound = λ m _ h. h ∙ prodFrom-zero (Series K) r (F m);
-    complete = λ m G. (G .product prime ∙ sym (prodFrom-zero (Series K) r (F m)), sumTo-zero m);
+    complete = λ m G. (G .product pos ∙ sym (prodFrom-zero (Series K) r (F m)), sumTo-zero m);
   }
 
   -- what is left after a root is not 0 there
@@ -161,7 +168,7 @@ module _ {p : ℕ} (prime : Prime p) (roots : List ℕ) (reduced : AllBelow p ro
           record {
             low = λ l u. h .low l (omega arith);
             sum = let s = h .sum in ap (λ n. suc (sumTo n (word powers))) (sym end) ∙ (let z : suc (sumTo i (word powers)) ≡ length e₀ = omega arith in z);
-            product = λ prime′. product′ prime′ g;
+            product = λ pos′. product′ pos′ g;
           };
       no = λ z m G.
           let s = h .complete m G .1 in
@@ -169,11 +176,11 @@ module _ {p : ℕ} (prime : Prime p) (roots : List ℕ) (reduced : AllBelow p ro
           true-false (sym (eq-eqb (at + 1) (length e₀) (omega arith)) ∙ sym f ∙ z);
     }
       where
-        product′ : (prime′ : Prime p) → at + 1 ≡ length e₀
-            → overField p (p-pos prime′) e₀ ≡ prod (Series (Fp p (p-pos prime′))) r (λ l. linPow (Fp p (p-pos prime′)) (rem p (p-pos prime′) (word roots l)) (word powers l))
-        product′ prime′ g = subst
+        product′ : (pos′ : zero < p) → at + 1 ≡ length e₀
+            → overField p pos′ e₀ ≡ prod (Series (Fp p pos′)) r (λ l. linPow (Fp p pos′) (rem p pos′ (word roots l)) (word powers l))
+        product′ pos′ g = subst
             (λ (w : zero < p). overField p w e₀ ≡ prod (Series (Fp p w)) r (λ l. linPow (Fp p w) (rem p w (word roots l)) (word powers l)))
-            (le-prop (p-pos prime) (p-pos prime′)) (h .sound (word powers) (λ l u. refl) (left-one g))
+            (le-prop (p-pos prime) pos′) (h .sound (word powers) (λ l u. refl) (left-one g))
 
 -- The same with the conditions on the roots inside, as a loop's invariant wants it.
 pub record Searching (p : ℕ) (roots e₀ : List ℕ) (i at : ℕ) (e powers : List ℕ) : Type 0 where

@@ -12,9 +12,11 @@ use native.Mathlib.Decide.{decLe}
 use native.Mathlib.Omega.{arith}
 use lib.ListN.{length, take, set, length-set}
 use lib.Seq.{ext-getD, getD-take, getD-set-same, getD-set-other, length-take-le}
-use Rattle.algebra.specs.Sums.{sumTo, sumTo-suc, sumTo-zeros}
-use Rattle.algebra.specs.Fp.{mod-mul-mod}
-use Rattle.numbers.specs.Words.{word, firstLarge, tabulate, over, AllBelow}
+use Rattle.algebra.specs.Sums.{sumTo}
+use Rattle.algebra.proofs.SumsLaws.{sumTo-suc, sumTo-zeros}
+use Rattle.algebra.specs.internal.Fp.{mod-mul-mod}
+use Rattle.numbers.specs.Words.{word, firstLarge, tabulate, over}
+use Rattle.numbers.specs.internal.Facts.{AllBelow}
 use Rattle.numbers.proofs.WordsLaws.{none-large, length-tabulate, word-tabulate, over-whole}
 use Rattle.numbers.specs.Limits.{largestDegree}
 use Rattle.series.proofs.SeriesLaws.{word-below}

@@ -10,17 +10,20 @@ use mathlib.Core.Path.{_≡_, refl, sym, _∙_, ap, subst}
 use mathlib.Core.List.{List, _++_}
 use lib.ListN.{length, take, drop, length-append, length-drop}
 use lib.Seq.{getD-drop, getD-append-add, length-take-le, drop-append-add}
-use Rattle.algebra.specs.Ring.{CommRing, ring, zero-add, pow-zero-mul, pow-suc-mul}
-use Rattle.algebra.specs.Series.{Series}
-use Rattle.algebra.specs.Poly.{const, const-zero, lin, linPow}
-use Rattle.algebra.specs.Fp.{Fp, rem}
-use Rattle.algebra.specs.Bridge.{rem-zero}
-use Rattle.numbers.specs.Words.{word, AllBelow}
+use Rattle.algebra.specs.internal.Ring.{CommRing, ring, zero-add}
+use Rattle.algebra.proofs.RingLaws.{pow-zero-mul, pow-suc-mul}
+use Rattle.algebra.specs.internal.Series.{Series}
+use Rattle.algebra.specs.internal.Poly.{const, lin, linPow}
+use Rattle.algebra.proofs.PolyLaws.{const-zero}
+use Rattle.algebra.specs.internal.Fp.{Fp, rem}
+use Rattle.algebra.proofs.BridgeLaws.{rem-zero}
+use Rattle.numbers.specs.Words.{word}
+use Rattle.numbers.specs.internal.Facts.{AllBelow}
 use Rattle.numbers.proofs.WordsLaws.{word-tabulate, from, from-is}
-use Rattle.columns.specs.Column.{hornerWord, hornerWords}
+use Rattle.columns.specs.internal.Column.{hornerWord, hornerWords}
 use Rattle.columns.proofs.ColumnLaws.{horner-word-suc, horner-word-none, horner-words-at, horner-below, length-horner, putFrom, put-from, append-below, take-below, drop-below}
 use Rattle.columns.proofs.SolveLaws.{pol-div}
-use Rattle.powers.specs.Powers.{overField, Divided, DividedOut}
+use Rattle.powers.specs.internal.Powers.{overField, Divided, DividedOut}
 
 pub value-starts : (p c : ℕ) (e : List ℕ) → 0 ≡ hornerWord p c (length e - length e) (word e) (length e)
 value-starts p c e = sym (ap (λ n. hornerWord p c n (word e) (length e)) (let z : length e - length e ≡ 0 = omega arith in z) ∙ horner-word-none p c (word e) (length e))

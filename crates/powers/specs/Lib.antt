@@ -1,1 +1,1 @@
-pub mod Powers
+pub mod internal

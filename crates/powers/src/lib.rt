@@ -4,11 +4,13 @@ use numbers::limits::MOST_ROWS;
 ghost use mathlib.Core.Path.{_≡_};
 ghost use Prim.Native.Nat.{ℕ, suc, _+_, _-_, _*_, _≤_, _<_};
 ghost use lib.ListN.{length};
-ghost use Rattle.algebra.specs.Fp.{Prime};
-ghost use Rattle.numbers.specs.Words.{word, AllBelow, tabulate};
-ghost use Rattle.numbers.specs.Limits.{modulusBound, mostRows};
-ghost use Rattle.columns.specs.Column.{hornerWord};
-ghost use Rattle.powers.specs.Powers.{DividedOut, FoundPowers};
+ghost use Rattle.algebra.specs.Prime.{Prime};
+ghost use Rattle.numbers.specs.Words.{word, tabulate};
+ghost use Rattle.numbers.specs.internal.Facts.{AllBelow};
+ghost use Rattle.numbers.specs.internal.Limits.{modulusBound};
+ghost use Rattle.numbers.specs.Limits.{mostRows};
+ghost use Rattle.columns.specs.internal.Column.{hornerWord};
+ghost use Rattle.powers.specs.internal.Powers.{DividedOut, FoundPowers};
 ghost use Rattle.hensel.specs.Factors.{rootPower};
 
 // The value at c.

@@ -1,6 +1,7 @@
 -- Numbers modulo p that travel with their p: what each operation answers, at every input. (Where the arithmetic of refusal 2 finds
 -- p prime, the numbers below p are the field F_p: see the crate algebra.)
---   numberOutcome r      document 01's number and values for each case of an answer
+--   numberOutcome r      number and values for each case of an answer
+--   residue p v          v modulo p, with its p
 --   operandChecks p xs   refusals 1, 2 and 6 for the operands xs
 --   sumOf, differenceOf, productOf, inverseNumber   the outcomes
 -- Assumes nothing.

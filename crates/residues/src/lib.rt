@@ -1,4 +1,4 @@
-// A number below p that travels with its p. Anyone can fill one in, so every operation judges what it holds.
+// A number modulo p, together with its p. Anyone can fill one in, so every operation judges what it holds.
 use numbers::judge::check_modulus;
 use numbers::judge::first_large;
 use numbers::kernel::inverse_of;

@@ -7,10 +7,11 @@ use mathlib.Core.List.{List}
 use Prim.Native.Nat.{ℕ, suc, _+_, _-_, _*_, _%_, _≤_, _<_}
 use native.Mathlib.Nat.{mod-lt, mul-zero, zero-mul, zero-mod}
 use native.Mathlib.Omega.{arith}
-use Rattle.algebra.specs.Sums.{sumTo-ext, sumTo-zeros}
-use Rattle.algebra.specs.Fp.{Fp, rem-mod}
-use Rattle.algebra.specs.Columns.{Columns}
-use Rattle.algebra.specs.Bridge.{col, columns-rem}
+use Rattle.algebra.proofs.SumsLaws.{sumTo-ext, sumTo-zeros}
+use Rattle.algebra.specs.internal.Fp.{Fp, col}
+use Rattle.algebra.proofs.FpLaws.{rem-mod}
+use Rattle.algebra.specs.internal.Poly.{Columns}
+use Rattle.algebra.proofs.BridgeLaws.{columns-rem}
 use Rattle.numbers.proofs.WordsLaws.{lt-or-ge}
 use Rattle.rows.specs.Rows.{rowsOf, mul, rowProduct}
 use Rattle.rows.proofs.RowsLaws.{rows-below, rows-past, word-table}

@@ -8,7 +8,8 @@ use native.Mathlib.Omega.{arith}
 use borrow.Author.Tests.{lt-ltb, le-ltb, ltb-true}
 use lib.ListN.{length, take, drop, length-drop}
 use lib.Seq.{getD-take, getD-drop, length-take-le}
-use Rattle.numbers.specs.Words.{word, firstLarge, Decides}
+use Rattle.numbers.specs.Words.{word, firstLarge}
+use Rattle.numbers.specs.internal.Facts.{Decides}
 use Rattle.numbers.proofs.WordsLaws.{true-false, none-large, large-there, from, word-from}
 use Rattle.numbers.proofs.TestsLaws.{allTo-at, at-allTo, allTo-false}
 use Rattle.rows.specs.Rows.{rowsBelow}

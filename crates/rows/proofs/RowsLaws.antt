@@ -10,15 +10,18 @@ use native.Mathlib.Omega.{arith}
 use borrow.Author.Tests.{lt-ltb, le-ltb}
 use lib.ListN.{length, take, drop, set, length-append, length-drop, List·getD-append}
 use lib.Seq.{getD-append-add, getD-drop, getD-take, getD-set-other, set-set, set-getD, take-all, take-at, take-add, ext-getD, length-take-le}
-use Rattle.algebra.specs.Sums.{sumTo, sumTo-ext, sumTo-bound, sumTo-zeros, sumTo-append}
-use Rattle.numbers.specs.Words.{word, tabulate, over, AllBelow}
+use Rattle.algebra.specs.Sums.{sumTo}
+use Rattle.algebra.proofs.SumsLaws.{sumTo-ext, sumTo-bound, sumTo-zeros, sumTo-append}
+use Rattle.numbers.specs.Words.{word, tabulate, over}
+use Rattle.numbers.specs.internal.Facts.{AllBelow}
 use Rattle.numbers.proofs.WordsLaws.{lt-or-ge, length-tabulate, word-tabulate, tabulate-ext, tabulate-below, Writing, writing-part, over-whole, from, length-from, word-from}
-use Rattle.numbers.specs.Limits.{modulusBound, mostRows, largestWidth}
+use Rattle.numbers.specs.internal.Limits.{modulusBound}
+use Rattle.numbers.specs.Limits.{mostRows, largestWidth}
 use Rattle.numbers.proofs.RefusalsLaws.{few-words}
-use Rattle.series.specs.Series.{dotSum}
+use Rattle.series.specs.internal.Dot.{dotSum}
 use Rattle.series.proofs.SeriesLaws.{word-below, sum-next}
 use Rattle.rows.specs.Rows.{rowsOf, table, mul, linePower, shifted}
-use Rattle.rows.specs.Passes.{passSum, weightSum, nextWeight}
+use Rattle.rows.specs.internal.Passes.{passSum, weightSum, nextWeight}
 
 -- rows
 pub rows-below : (s : List ℕ) (N rows j t : ℕ) → j < rows → rowsOf s N rows j t ≡ word s (j * N + t)

@@ -8,15 +8,18 @@ use Prim.Native.Nat.{ℕ, zero, suc, _+_, _-_, _*_, _%_, _≤_, _<_, Fin}
 use native.Mathlib.Nat.{mod-lt, mul-zero, zero-mod}
 use native.Mathlib.Omega.{arith}
 use lib.ListN.{length}
-use Rattle.algebra.specs.Sums.{sumTo-zero, sumTo-ext, sumTo-zeros}
-use Rattle.algebra.specs.Ring.{CommRing, neg-neg, pow-zero, pow-suc}
-use Rattle.algebra.specs.Series.{Series, sum-ext, add-at, zero-at, one-at}
-use Rattle.algebra.specs.Poly.{lin, linPow, lin-mul-zero, lin-mul-suc, Below}
-use Rattle.algebra.specs.Columns.{Columns}
-use Rattle.algebra.specs.Shift.{shift, shift-zero, shift-sum, shift-add, shift-inverse, shiftColumns, shift-columns-mul-at}
-use Rattle.algebra.specs.Fp.{Fp, rem, rem-add, rem-mul, rem-mod}
-use Rattle.algebra.specs.Bridge.{col, same-rem, rem-zero, rem-one, neg-rem, sum-rem}
-use Rattle.numbers.specs.Words.{AllBelow}
+use Rattle.algebra.proofs.SumsLaws.{sumTo-zero, sumTo-ext, sumTo-zeros}
+use Rattle.algebra.specs.internal.Ring.{CommRing}
+use Rattle.algebra.proofs.RingLaws.{neg-neg, pow-zero, pow-suc}
+use Rattle.algebra.specs.internal.Series.{Series}
+use Rattle.algebra.proofs.SeriesLaws.{sum-ext, add-at, zero-at, one-at}
+use Rattle.algebra.specs.internal.Poly.{lin, linPow, Columns}
+use Rattle.algebra.proofs.PolyLaws.{lin-mul-zero, lin-mul-suc, Below}
+use Rattle.algebra.proofs.Shift.{shift, shift-zero, shift-sum, shift-add, shift-inverse, shiftColumns, shift-columns-mul-at}
+use Rattle.algebra.specs.internal.Fp.{Fp, rem, col}
+use Rattle.algebra.proofs.FpLaws.{rem-add, rem-mul, rem-mod}
+use Rattle.algebra.proofs.BridgeLaws.{same-rem, rem-zero, rem-one, neg-rem, sum-rem}
+use Rattle.numbers.specs.internal.Facts.{AllBelow}
 use Rattle.numbers.proofs.WordsLaws.{lt-or-ge}
 use Rattle.rows.specs.Rows.{rowsOf, mul, rowProduct, linePower, shifted, rowShift}
 use Rattle.rows.proofs.RowsLaws.{rows-below, rows-past, rows-bound, word-table, table-ext, table-rows, line-zero}

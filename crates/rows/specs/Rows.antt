@@ -20,7 +20,7 @@ use mathlib.Core.List.{List, [], _∷_, _++_}
 use lib.Dec.{leb, ltb, eqb}
 use Rattle.algebra.specs.Sums.{sumTo}
 use Rattle.numbers.specs.Words.{word, choose, allTo, tabulate}
-use Rattle.numbers.specs.Refusals.{Check, check, inputChecks, operationChecks}
+use Rattle.numbers.specs.Refusals.{Check, check, roomCheck, inputChecks, operationChecks}
 
 unfoldable pub rowsOf : List ℕ → (N rows : ℕ) → ℕ → ℕ → ℕ
 rowsOf s N rows j t = choose (ltb j rows) (word s (j * N + t)) 0
@@ -36,12 +36,7 @@ abbrev pub productChecks : (p D₁ D₂ N : ℕ) (f g : List ℕ) (room : ℕ) �
 productChecks p D₁ D₂ N f g room = operationChecks p N f (D₁ + 1) g (D₂ + 1) (D₁ + D₂ + 1) room
 
 abbrev pub shiftChecks : (p D N : ℕ) (f : List ℕ) (c room : ℕ) → List Check
-shiftChecks p D N f c room =
-    inputChecks p N f (D + 1) [] 0 (D + 1) ++ (
-    check 6 (leb p c) ((D + 1) * N)
-    ∷ check 10 (ltb room ((D + 1) * N)) ((D + 1) * N)
-    ∷ []
-    )
+shiftChecks p D N f c room = inputChecks p N f (D + 1) [] 0 (D + 1) ++ (check 6 (leb p c) ((D + 1) * N) ∷ roomCheck room ((D + 1) * N) ∷ [])
 
 unfoldable pub mul : ℕ → (ℕ → ℕ → ℕ) → (ℕ → ℕ → ℕ) → ℕ → ℕ → ℕ
 mul p a b j t = sumTo (suc j) (λ i. sumTo (suc t) (λ s. a i s * b (j - i) (t - s))) % p

@@ -6,10 +6,12 @@ use series::kernel::dot;
 ghost use mathlib.Core.Path.{_≡_};
 ghost use Prim.Native.Nat.{_+_, _-_, _*_, _%_, _≤_, _<_};
 ghost use lib.ListN.{length};
-ghost use Rattle.numbers.specs.Words.{word, over, tabulate, AllBelow};
-ghost use Rattle.numbers.specs.Limits.{modulusBound, mostRows, largestWidth};
+ghost use Rattle.numbers.specs.Words.{word, over, tabulate};
+ghost use Rattle.numbers.specs.internal.Facts.{AllBelow};
+ghost use Rattle.numbers.specs.internal.Limits.{modulusBound};
+ghost use Rattle.numbers.specs.Limits.{mostRows, largestWidth};
 ghost use Rattle.rows.specs.Rows.{rowsOf, table, mul, linePower, shifted, rowsBelow};
-ghost use Rattle.rows.specs.Passes.{passSum, weightSum, nextWeight};
+ghost use Rattle.rows.specs.internal.Passes.{passSum, weightSum, nextWeight};
 
 fn first_row(j: usize, grows: usize) -> usize
     requires { ⌜ j < 4096 ⌝ }

@@ -7,7 +7,8 @@ use native.Mathlib.Omega.{arith}
 use borrow.Author.Tests.{eq-eqb, ne-eqb}
 use lib.Dec.{eqb}
 use lib.ListN.{length}
-use Rattle.numbers.specs.Words.{word, over, AllBelow}
+use Rattle.numbers.specs.Words.{word, over}
+use Rattle.numbers.specs.internal.Facts.{AllBelow}
 use Rattle.numbers.specs.Refusals.{Check, check, judge, refusal, Outcome, accepted, outcome, result, written}
 use Rattle.numbers.specs.declared.refusal.Refusal.{Refusal}
 use Rattle.numbers.specs.declared.refusal.Verdict.{Verdict}
@@ -15,7 +16,8 @@ use Rattle.numbers.specs.declared.refusal.Verdict.the-variants.{Pass, Refuse}
 use Rattle.numbers.specs.declared.refusal.Answer.{Answer}
 use Rattle.numbers.specs.declared.refusal.Answer.the-variants.{Refused}
 use Rattle.numbers.proofs.RefusalsLaws.{after-pass, after-refuse, take-check, skip-check, none-judged, operation-pass, answer-refused, answer-done}
-use Rattle.numbers.specs.Limits.{modulusBound, largestWidth}
+use Rattle.numbers.specs.internal.Limits.{modulusBound}
+use Rattle.numbers.specs.Limits.{largestWidth}
 use Rattle.series.specs.Series.{seriesChecks}
 
 -- where a call made the refusal

@@ -8,12 +8,17 @@ use native.Mathlib.Numerals.{add-one}
 use native.Mathlib.Omega.{arith}
 use lib.ListN.{length}
 use lib.Seq.{ext-getD}
-use Rattle.algebra.specs.Sums.{sumTo, sumTo-front}
-use Rattle.algebra.specs.Ring.{CommRing, ring, minus, one-mul}
-use Rattle.algebra.specs.Series.{conv-comm}
-use Rattle.algebra.specs.Fp.{Prime, Fp, Fp-field, p-pos, rem, rem-add, rem-mul, rem-mod, rem-val}
-use Rattle.algebra.specs.Bridge.{rem-eq, same-rem, rem-zero, rem-one, sub-rem, conv-rem}
-use Rattle.numbers.specs.Words.{word, AllBelow}
+use Rattle.algebra.specs.Sums.{sumTo}
+use Rattle.algebra.proofs.SumsLaws.{sumTo-front}
+use Rattle.algebra.specs.internal.Ring.{CommRing, ring, one-mul}
+use Rattle.algebra.proofs.RingLaws.{minus}
+use Rattle.algebra.specs.internal.Series.{conv-comm}
+use Rattle.algebra.specs.Prime.{Prime}
+use Rattle.algebra.specs.internal.Fp.{Fp, rem}
+use Rattle.algebra.proofs.FpLaws.{Fp-field, p-pos, rem-add, rem-mul, rem-mod, rem-val}
+use Rattle.algebra.proofs.BridgeLaws.{rem-eq, same-rem, rem-zero, rem-one, sub-rem, conv-rem}
+use Rattle.numbers.specs.Words.{word}
+use Rattle.numbers.specs.internal.Facts.{AllBelow}
 use Rattle.numbers.specs.Divisor.{inverseOf}
 use Rattle.numbers.proofs.DivisorLaws.{inverse-is}
 use Rattle.series.specs.Series.{productColumn, quotientColumn, quotient}

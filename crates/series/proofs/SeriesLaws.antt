@@ -1,6 +1,6 @@
 -- Laws of the definitions of `specs/Series`: bounds of sums of products, what a pass along two rows gives, and the columns of the quotient.
 -- Assumes nothing.
-use mathlib.Core.Path.{_≡_, refl, sym, ap, subst, _∙_}
+use mathlib.Core.Path.{_≡_, refl, sym, ap, subst, _∙_, ap₂}
 use mathlib.Core.Logic.{⊎-elim}
 use mathlib.Core.List.{List, [], _∷_, _++_}
 use Prim.Native.Nat.{ℕ, zero, suc, _+_, _-_, _*_, _%_, _≤_, _<_}
@@ -9,12 +9,15 @@ use native.Mathlib.Numerals.{add-one}
 use native.Mathlib.Omega.{arith}
 use lib.ListN.{length, take, drop, set, length-append, length-drop, List·getD-append, List·getD-eq-default}
 use lib.Seq.{getD-at, getD-drop, take-all}
-use Rattle.algebra.specs.Sums.{sumTo, sumTo-suc, sumTo-ext, sumTo-bound}
-use Rattle.numbers.specs.Words.{word, AllBelow}
+use Rattle.algebra.specs.Sums.{sumTo}
+use Rattle.algebra.proofs.SumsLaws.{sumTo-suc, sumTo-ext, sumTo-bound}
+use Rattle.numbers.specs.Words.{word}
+use Rattle.numbers.specs.internal.Facts.{AllBelow}
 use Rattle.numbers.specs.Divisor.{inverseOf}
 use Rattle.numbers.proofs.WordsLaws.{lt-or-ge, tabulate-below, Writing, writing-store, writing-take, from, from-is}
-use Rattle.numbers.specs.Limits.{modulusBound}
-use Rattle.series.specs.Series.{sums, differences, productColumn, product, quotientColumn, quotient, dotSum}
+use Rattle.numbers.specs.internal.Limits.{modulusBound}
+use Rattle.series.specs.Series.{sums, differences, productColumn, product, quotientColumn, quotient}
+use Rattle.series.specs.internal.Dot.{dotSum}
 
 -- what a sum gains with one summand more
 pub sum-next : (n : ℕ) (f : ℕ → ℕ) → sumTo (n + 1) f ≡ sumTo n f + f n
@@ -108,7 +111,7 @@ pub column-ext : (p : ℕ) (f g h h′ : List ℕ) (t : ℕ) → ((i : ℕ) → 
 unfolding quotientColumn
 column-ext p f g h h′ t e =
     ap (λ (x : ℕ). (word f t + (p - x % p)) * inverseOf p (word g 0) % p)
-    (sumTo-ext t (λ i l. ap (λ (x : ℕ). word g (i + 1) * x) (e (t - (i + 1)) (omega arith))))
+    (sumTo-ext t (λ i l. ap₂ _*_ refl (e (t - (i + 1)) (omega arith))))
 
 -- so every word of the quotient is the column over the whole quotient
 pub word-quotient : (p n : ℕ) (f g : List ℕ) (t : ℕ) → t < n → word (quotient p n f g) t ≡ quotientColumn p f g (quotient p n f g) t

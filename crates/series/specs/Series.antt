@@ -1,12 +1,11 @@
--- Series modulo p: lists of N words, word t the coefficient of X^t.
+-- Series modulo p: lists of N words, at t the coefficient of X^t.
 --   seriesChecks ..      the checks of an operation on two series
 --   inverseChecks ..     of the inverse
 --   quotientChecks ..    of the quotient
 --   sums p n g h         g + h, word by word
 --   differences p n g h  g − h, word by word
---   product p n g h      column t is the sum over i = 0..t of g_i · h_(t−i)
---   quotient p n f g     column t is (f_t − the sum over i = 1..t of g_i · h_(t−i)) / g_0, from the columns h before it
---   dotSum g h k         the sum over i < k of g_i · h_(k−1−i): what one pass along two rows adds up
+--   productColumn, product   column t of g · h is the sum over i = 0..t of g_i · h_(t−i)
+--   quotientColumn, quotient   column t of f / g is (f_t − the sum over i = 1..t of g_i · h_(t−i)) / g_0, from the columns h before it
 -- The inverse of g is the quotient of 1, the series 1, 0, 0, ..
 -- Assumes nothing.
 use Prim.Native.Nat.{ℕ, zero, suc, _+_, _-_, _*_, _%_}
@@ -44,6 +43,3 @@ quotientColumn p f g h t = (word f t + (p - sumTo t (λ i. word g (i + 1) * word
 unfoldable pub quotient : (p n : ℕ) (f g : List ℕ) → List ℕ
 quotient p zero f g = []
 quotient p (suc t) f g = quotient p t f g ++ (quotientColumn p f g (quotient p t f g) t ∷ [])
-
-unfoldable pub dotSum : (g h : List ℕ) → ℕ → ℕ
-dotSum g h k = sumTo k (λ i. word g i * word h (k - (i + 1)))

@@ -4,10 +4,13 @@ use numbers::kernel::inverse_of;
 ghost use mathlib.Core.Path.{_≡_};
 ghost use Prim.Native.Nat.{ℕ, _≤_, _<_};
 ghost use lib.ListN.{length};
-ghost use Rattle.algebra.specs.Fp.{Prime};
-ghost use Rattle.numbers.specs.Words.{word, over, AllBelow};
-ghost use Rattle.numbers.specs.Limits.{modulusBound, largestWidth};
-ghost use Rattle.series.specs.Series.{sums, differences, product, quotient, dotSum};
+ghost use Rattle.algebra.specs.Prime.{Prime};
+ghost use Rattle.numbers.specs.Words.{word, over};
+ghost use Rattle.numbers.specs.internal.Facts.{AllBelow};
+ghost use Rattle.numbers.specs.internal.Limits.{modulusBound};
+ghost use Rattle.numbers.specs.Limits.{largestWidth};
+ghost use Rattle.series.specs.Series.{sums, differences, product, quotient};
+ghost use Rattle.series.specs.internal.Dot.{dotSum};
 
 // One pass along two rows, the second backwards, not yet reduced: at most 256 products below 2^48.
 pub fn dot(g: &[u32], h: &[u32], k: usize) -> u64

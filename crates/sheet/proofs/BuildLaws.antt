@@ -12,45 +12,17 @@ use native.Mathlib.Omega.{arith}
 use mathlib.Core.Path.{_≡_, refl, sym, _∙_, ap}
 use borrow.Author.Tests.{lt-ltb, le-ltb, ltb-true}
 use lib.Dec.{ltb}
-use Rattle.algebra.specs.Sums.{sumTo, sumTo-suc, sumTo-mono}
-use Rattle.algebra.specs.Fp.{Prime}
-use Rattle.numbers.specs.Words.{choose, firstWhere}
-use Rattle.numbers.specs.Refusals.{}
+use Rattle.sheet.specs.internal.Content.{Content, blockOf, stacked, cut, built, start, Splits, Ready}
+use Rattle.algebra.specs.Sums.{sumTo}
+use Rattle.algebra.proofs.SumsLaws.{sumTo-suc, sumTo-mono}
 use Rattle.numbers.proofs.WordsLaws.{first-is}
-use Rattle.numbers.specs.Limits.{largestModulus, largestDegree, largestWidth}
-use Rattle.rows.specs.Rows.{linePower, unit, monic}
+use Rattle.rows.specs.Rows.{linePower, monic}
 use Rattle.rows.proofs.RowsLaws.{line-lt, line-zero}
 use Rattle.rows.proofs.MonicLaws.{monic-low, monic-top, monic-above, by-place}
-use Rattle.hensel.specs.Factors.{rootPower, flat, product, IsFactors}
+use Rattle.hensel.specs.Factors.{product, IsFactors}
 use Rattle.hensel.proofs.FactorsLaws.{product-ext, factors-ext}
-use Rattle.sheet.proofs.ExistsLaws.{Splits, factors-splits, solution, solution-lt, solution-is}
-use Rattle.sheet.proofs.ContentLaws.{Content}
+use Rattle.sheet.proofs.ExistsLaws.{factors-splits, solution, solution-lt, solution-is}
 use Rattle.sheet.proofs.SheetsLaws.{factorOf, Good}
-
--- the block of r blocks, with m 0, m 1, .. rows, that row q stands in
-unfoldable pub blockOf : ℕ → (ℕ → ℕ) → ℕ → ℕ
-blockOf r m q = firstWhere (λ i. ltb q (sumTo (suc i) m)) 0 r
-
--- block after block: row q is row j of block i
-unfoldable pub stacked : ℕ → (ℕ → ℕ) → (ℕ → ℕ → ℕ → ℕ) → ℕ → ℕ → ℕ
-stacked r m a q t = a (blockOf r m q) (q - sumTo (blockOf r m q) m) t
-
--- 0 from column k on
-unfoldable pub cut : ℕ → (ℕ → ℕ → ℕ) → ℕ → ℕ → ℕ
-cut k a j t = choose (ltb t k) (a j t) 0
-
-abbrev pub built : (p D N k r : ℕ) (root power : ℕ → ℕ) (f : ℕ → ℕ → ℕ) (a : ℕ → ℕ → ℕ → ℕ) → Content
-built p D N k r root power f a = record {
-  p = p;
-  D = D;
-  N = N;
-  k = k;
-  r = r;
-  root = root;
-  power = power;
-  f = f;
-  factors = cut k (stacked r power a);
-}
 
 block-is : (r : ℕ) (m : ℕ → ℕ) (i j : ℕ) → i < r → j < m i → blockOf r m (sumTo i m + j) ≡ i
 unfolding blockOf
@@ -70,17 +42,6 @@ cut-low k b j t l = rw (lt-ltb t k l)
 pub cut-high : (k : ℕ) (b : ℕ → ℕ → ℕ) (j t : ℕ) → k ≤ t → cut k b j t ≡ 0
 unfolding cut
 cut-high k b j t l = rw (le-ltb t k l)
-
-pub record Ready (p D N r : ℕ) (root power : ℕ → ℕ) (f : ℕ → ℕ → ℕ) : Type 0 where
-  pub prime : Prime p
-  pub small : p ≤ largestModulus
-  pub degree-low : 1 ≤ D
-  pub degree-high : D ≤ largestDegree
-  pub width-low : 1 ≤ N
-  pub width-high : N ≤ largestWidth
-  pub reduced : (j : ℕ) → j ≤ D → (t : ℕ) → t < N → f j t < p
-  pub top : (t : ℕ) → t < N → f D t ≡ unit t
-  pub splits : Splits p D r f root power
 
 pub good-ready : (c : Content) → Good c → Ready (c .p) (c .D) (c .N) (c .r) (c .root) (c .power) (c .f)
 good-ready c h = record {
@@ -132,9 +93,6 @@ pub line-top : (p c m : ℕ) → 1 < p → linePower p c m m ≡ 1
 unfolding linePower
 line-top p c zero two = refl
 line-top p c (suc m) two = rw (line-zero p c m (suc m) (omega arith), line-top p c m two) (ap (λ x. x % p) (let z : c * 0 + 1 ≡ 1 = omega arith in z) ∙ mod-eq-of-lt two)
-
-abbrev pub start : (p : ℕ) (root power : ℕ → ℕ) → ℕ → ℕ → ℕ → ℕ
-start p root power i = flat (rootPower p (root i) (power i))
 
 module _ (p D r : ℕ) (f : ℕ → ℕ → ℕ) (root power : ℕ → ℕ) (two : 1 < p) (h : Splits p D r f root power) where
   start-row : (i j t : ℕ) → t < 1 → monic (power i) (start p root power i) j t ≡ start p root power i j t

@@ -10,54 +10,15 @@
 use Prim.Native.Nat.{ℕ, zero, suc, _+_, _*_, _≤_, _<_}
 use native.Mathlib.Omega.{arith}
 use mathlib.Core.Path.{_≡_, refl, _∙_, ap, ap₂}
-use mathlib.Core.List.{List, [], _∷_, _++_}
+use mathlib.Core.List.{List, _++_}
 use lib.ListN.{length, length-append, List·getD-append}
 use lib.Seq.{getD-append-add}
+use Rattle.sheet.specs.internal.Content.{Content, size, headerWords, entry, sheetWords}
 use Rattle.numbers.specs.Words.{word}
 use Rattle.rows.specs.Rows.{table}
 use Rattle.rows.proofs.RowsLaws.{length-table, word-table, table-ext}
-use Rattle.layout.specs.Layout.{modulus, degree, width, terms, count, rootsFrom, polynomialFrom, factorsFrom, total, root, power, polynomial, factorRows}
+use Rattle.layout.specs.Layout.{modulus, degree, width, terms, count, rootsFrom, polynomialFrom, factorsFrom, root, power, polynomial}
 use Rattle.layout.proofs.RegionsLaws.{in-rows}
-
-pub record Content : Type 0 where
-  pub p : ℕ
-  pub D : ℕ
-  pub N : ℕ
-  pub k : ℕ
-  pub r : ℕ
-  pub root : ℕ → ℕ
-  pub power : ℕ → ℕ
-  pub f : ℕ → ℕ → ℕ
-  pub factors : ℕ → ℕ → ℕ
-
-abbrev pub contentOf : List ℕ → Content
-contentOf s = record {
-  p = modulus s;
-  D = degree s;
-  N = width s;
-  k = terms s;
-  r = count s;
-  root = root s;
-  power = power s;
-  f = polynomial s;
-  factors = factorRows s;
-}
-
-abbrev pub size : Content → ℕ
-size c = total (c .D) (c .N) (c .r)
-
-abbrev pub headerWords : Content → List ℕ
-headerWords c =
-    c .p ∷ c .D ∷ c .N ∷ c .k ∷ c .r ∷ rootsFrom ∷ polynomialFrom (c .r) ∷ factorsFrom (c .D) (c .N) (c .r) ∷ size c ∷ size c ∷ []
-
--- root, then power
-abbrev pub entry : Content → ℕ → ℕ → ℕ
-entry c i zero = c .root i
-entry c i (suc t) = c .power i
-
-unfoldable pub sheetWords : Content → List ℕ
-sheetWords c =
-    headerWords c ++ (table (c .r) 2 (entry c) ++ (table (c .D + 1) (c .N) (c .f) ++ table (c .D) (c .N) (c .factors)))
 
 -- past the first list
 skip : (xs ys : List ℕ) (n i k : ℕ) → length xs ≡ n → k ≡ n + i → word (xs ++ ys) k ≡ word ys i

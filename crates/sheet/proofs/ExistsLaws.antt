@@ -1,5 +1,4 @@
 -- The conditions of the factors have a solution, to any number of terms.
---   Splits ..      the conditions of roots and powers alone: document 01's "powers of the listed roots that give f at X = 0"
 --   splits-unique  f at X = 0 determines roots and powers
 --   solution ..    the rows of the factors, over F_p
 --   solution-lt    they are below p
@@ -12,26 +11,24 @@ use native.Mathlib.Decide.{decLe}
 use native.Mathlib.Omega.{arith}
 use mathlib.Core.Path.{_≡_, refl, sym, _∙_, ap, subst, fun-ext}
 use mathlib.Core.Logic.{⊎-elim}
+use Rattle.sheet.specs.internal.Content.{Splits}
 use Rattle.algebra.specs.Sums.{sumTo}
-use Rattle.algebra.specs.Ring.{CommRing, prod-ext}
-use Rattle.algebra.specs.Series.{Series, prod-at-zero}
-use Rattle.algebra.specs.Columns.{Columns}
-use Rattle.algebra.specs.Chain.{Monic, Lifted, at-zero, at-zero-below, chain-exists, roots-unique, rising-distinct, factor-monic}
-use Rattle.algebra.specs.Fp.{Prime, Fp, p-pos, Fp-field, rem, rem-val, val-unique}
-use Rattle.algebra.specs.Bridge.{col, same-rem, rem-zero, rem-one}
+use Rattle.algebra.specs.internal.Ring.{CommRing}
+use Rattle.algebra.proofs.RingLaws.{prod-ext}
+use Rattle.algebra.specs.internal.Series.{Series}
+use Rattle.algebra.proofs.SeriesLaws.{prod-at-zero}
+use Rattle.algebra.specs.internal.Poly.{Columns}
+use Rattle.algebra.proofs.Chain.{Monic, Lifted, at-zero, at-zero-below, chain-exists, roots-unique, rising-distinct, factor-monic}
+use Rattle.algebra.specs.Prime.{Prime}
+use Rattle.algebra.specs.internal.Fp.{Fp, rem, col}
+use Rattle.algebra.proofs.FpLaws.{p-pos, Fp-field, rem-val, val-unique}
+use Rattle.algebra.proofs.BridgeLaws.{same-rem, rem-zero, rem-one}
 use Rattle.rows.proofs.ShiftLaws.{root-power}
 use Rattle.rows.proofs.RowsLaws.{line-lt}
 use Rattle.rows.specs.Rows.{unit, monic}
 use Rattle.rows.proofs.MonicLaws.{monic-low, monic-top, monic-above, by-place}
 use Rattle.hensel.specs.Factors.{rootPower, flat, product, split, IsFactors}
 use Rattle.hensel.proofs.FactorsLaws.{product-rem, product-lt, monic-rem, factors-unique, rootsOf, key, roots-rising}
-
-pub record Splits (p D r : ℕ) (f : ℕ → ℕ → ℕ) (root power : ℕ → ℕ) : Type 0 where
-  pub rising : (i : ℕ) → suc i < r → root i < root (suc i)
-  pub reduced : (i : ℕ) → i < r → root i < p
-  pub powers : (i : ℕ) → i < r → 1 ≤ power i
-  pub degree : sumTo r power ≡ D
-  pub splits : (j : ℕ) → j ≤ D → split p r root power j ≡ f j zero
 
 pub factors-splits : (p D k r : ℕ) (f : ℕ → ℕ → ℕ) (root power : ℕ → ℕ) (a : ℕ → ℕ → ℕ → ℕ) → IsFactors p D k r f root power a → Splits p D r f root power
 factors-splits p D k r f root power a h = record { rising = h .rising; reduced = h .reduced; powers = h .powers; degree = h .degree; splits = h .splits }

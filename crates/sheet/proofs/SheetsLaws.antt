@@ -7,25 +7,26 @@
 --   words-sound     and it is sound where c is good: soundness depends on the first T words alone
 --   sound-ext       so a slice with the same first T words as a sound sheet is sound
 -- Assumes nothing.
-use Prim.Native.Nat.{ℕ, zero, suc, _+_, _*_, _≤_, _<_}
+use Prim.Native.Nat.{ℕ, _+_, _*_, _≤_, _<_}
 use native.Mathlib.Omega.{arith}
-use mathlib.Core.Path.{_≡_, refl, sym, _∙_, ap, ap₂, subst}
+use mathlib.Core.Path.{_≡_, sym, _∙_, ap, ap₂, subst}
 use mathlib.Core.List.{List}
 use lib.ListN.{length, take}
 use lib.Seq.{ext-getD, getD-take, length-take-le}
-use Rattle.algebra.specs.Sums.{sumTo, sumTo-ext}
-use Rattle.algebra.specs.Fp.{Prime}
+use Rattle.algebra.specs.Sums.{sumTo}
+use Rattle.algebra.proofs.SumsLaws.{sumTo-ext}
+use Rattle.algebra.specs.Prime.{Prime}
 use Rattle.numbers.specs.Words.{word}
-use Rattle.numbers.specs.Refusals.{}
 use Rattle.numbers.specs.Limits.{largestModulus, largestDegree, largestWidth}
 use Rattle.rows.specs.Rows.{unit}
 use Rattle.hensel.specs.Factors.{IsFactors}
-use Rattle.layout.specs.Layout.{modulus, degree, width, terms, count, rootsFrom, polynomialFrom, factorsFrom, root, power, end, polynomial}
+use Rattle.layout.specs.Layout.{headerOf, modulus, degree, width, terms, count, rootsFrom, polynomialFrom, factorsFrom, root, power, end, polynomial}
 use Rattle.sheet.specs.Sheet.{Sound}
 use Rattle.hensel.proofs.FactorsLaws.{factors-ext}
 use Rattle.layout.proofs.RegionsLaws.{in-rows, by-region}
 use Rattle.hensel.proofs.BlocksLaws.{in-block}
-use Rattle.sheet.proofs.ContentLaws.{Content, contentOf, size, headerWords, sheetWords, word-header, word-root, word-power, word-polynomial, word-factors, length-sheet, SameContent, same-size}
+use Rattle.sheet.specs.internal.Content.{Content, contentOf, size, headerWords, sheetWords}
+use Rattle.sheet.proofs.ContentLaws.{word-header, word-root, word-power, word-polynomial, word-factors, length-sheet, SameContent, same-size}
 
 -- the rows of factor i
 abbrev pub factorOf : Content → ℕ → ℕ → ℕ → ℕ
@@ -76,6 +77,10 @@ module _ (c c′ : Content) (e : SameContent c c′) (h : Good c) where
         factors-rest = λ j l t g v. sym (e .factors j t (omega arith) (omega arith)) ∙ h .factors-rest j (omega arith) t (omega arith) (omega arith);
       }
 
+header-same : {p p′ D D′ N N′ k k′ r r′ : ℕ} → p ≡ p′ → D ≡ D′ → N ≡ N′ → k ≡ k′ → r ≡ r′ → headerOf p D N k r ≡ headerOf p′ D′ N′ k′ r′
+header-same {p} {p′} {D} {D′} {N} {N′} {k} {k′} {r} {r′} e f g h i =
+    ap (λ x. headerOf x D N k r) e ∙ ap (λ x. headerOf p′ x N k r) f ∙ ap (λ x. headerOf p′ D′ x k r) g ∙ ap (λ x. headerOf p′ D′ N′ x r) h ∙ ap (λ x. headerOf p′ D′ N′ k′ x) i
+
 module _ (s : List ℕ) where
   pub sound-good : Sound s → Good (contentOf s)
   sound-good h = record {
@@ -93,24 +98,11 @@ module _ (s : List ℕ) where
     factors-rest = h .factors-rest;
   }
 
-  header : Sound s → (i : ℕ) → i < 10 → word s i ≡ word (headerWords (contentOf s)) i
-  header h zero l = refl
-  header h (suc zero) l = refl
-  header h (suc (suc zero)) l = refl
-  header h (suc (suc (suc zero))) l = refl
-  header h (suc (suc (suc (suc zero)))) l = refl
-  header h (suc (suc (suc (suc (suc zero))))) l = h .offset-roots
-  header h (suc (suc (suc (suc (suc (suc zero)))))) l = h .offset-polynomial
-  header h (suc (suc (suc (suc (suc (suc (suc zero))))))) l = h .offset-factors
-  header h (suc (suc (suc (suc (suc (suc (suc (suc zero)))))))) l = h .offset-rest
-  header h (suc (suc (suc (suc (suc (suc (suc (suc (suc zero))))))))) l = h .offset-end
-  header h (suc (suc (suc (suc (suc (suc (suc (suc (suc (suc i)))))))))) l = absurd (let z : ⊥ = omega arith in z)
-
   pub sound-words : Sound s → (i : ℕ) → i < end s → word s i ≡ word (sheetWords (contentOf s)) i
   sound-words h =
       let c = contentOf s in
       by-region (λ i. word s i ≡ word (sheetWords c) i) (degree s) (width s) (count s) (let a = h .terms-low in let b = h .terms-high in omega arith)
-      (λ i l. header h i l ∙ sym (word-header c i l)) (λ i l. sym (word-root c i l)) (λ i l. sym (word-power c i l))
+      (λ i l. h .header i l ∙ sym (word-header c i l)) (λ i l. sym (word-root c i l)) (λ i l. sym (word-power c i l))
       (λ j l t g. sym (word-polynomial c j t l g)) (λ j l t g. sym (word-factors c j t l g))
 
   module _ (c : Content) (agree : (i : ℕ) → i < size c → word s i ≡ word (sheetWords c) i) where
@@ -153,11 +145,7 @@ module _ (s : List ℕ) where
           width-high = g .width-high;
           terms-low = g .terms-low;
           terms-high = g .terms-high;
-          offset-roots = at-header 5 (omega arith);
-          offset-polynomial = at-header 6 (omega arith) ∙ ap polynomialFrom er;
-          offset-factors = at-header 7 (omega arith) ∙ cc (eD, eN, er);
-          offset-rest = at-header 8 (omega arith) ∙ sym z;
-          offset-end = at-header 9 (omega arith) ∙ sym z;
+          header = λ i l. at-header i l ∙ ap (λ x. word x i) (header-same (e .modulus) eD eN (e .terms) er);
           long = omega arith;
           polynomial-reduced = g .reduced;
           polynomial-monic = g .top;

@@ -7,15 +7,17 @@ use mathlib.Core.Path.{_≡_, refl, sym, ap, subst, _∙_}
 use mathlib.Core.Logic.{⊎-elim}
 use mathlib.Core.Bool.{Bool, true, false}
 use mathlib.Core.List.{List}
-use Prim.Native.Nat.{ℕ, _+_, _-_, _*_, _≤_, _<_}
+use Prim.Native.Nat.{ℕ, _+_, _-_, _*_, _≤_, _<_, zero, suc}
 use native.Mathlib.Numerals.{add-one}
 use native.Mathlib.Omega.{arith}
 use borrow.Author.Tests.{lt-ltb, le-ltb}
 use lib.Dec.{ltb}
 use lib.ListN.{length, take, drop, length-drop}
 use lib.Seq.{getD-take, getD-drop, length-take-le}
-use Rattle.algebra.specs.Sums.{sumTo, sumTo-zero}
-use Rattle.numbers.specs.Words.{word, choose, part, Decides}
+use Rattle.algebra.specs.Sums.{sumTo}
+use Rattle.algebra.proofs.SumsLaws.{sumTo-zero}
+use Rattle.numbers.specs.Words.{word, choose, part}
+use Rattle.numbers.specs.internal.Facts.{Decides}
 use Rattle.numbers.proofs.WordsLaws.{lt-or-ge, true-false}
 use Rattle.layout.proofs.PlacesLaws.{count-sum}
 use Rattle.rows.proofs.RowsLaws.{row-fits}
@@ -23,11 +25,12 @@ use Rattle.hensel.specs.Factors.{IsFactors}
 use Rattle.hensel.proofs.FactorsLaws.{factors-unique, factors-ext}
 use Rattle.hensel.proofs.BlocksLaws.{locate, in-block}
 use Rattle.layout.specs.declared.Header.{Header}
-use Rattle.layout.specs.Places.{HeaderIs}
-use Rattle.layout.specs.Layout.{modulus, degree, width, terms, count, factorsFrom, root, power, polynomial, factor, factorRows}
-use Rattle.sheet.specs.Sheet.{Sound, soundTest}
-use Rattle.front.specs.Front.{Shape, PolynomialFits, topFrom, Front}
-use Rattle.sheet.specs.Stages.{SplitFits, blockRows, upTo, Computed, SameTerms}
+use Rattle.layout.specs.internal.Places.{HeaderIs}
+use Rattle.layout.specs.Layout.{modulus, degree, width, terms, count, factorsFrom, root, power, polynomial, factor, factorRows, rootsFrom, headerOf}
+use Rattle.sheet.specs.Sheet.{Sound}
+use Rattle.sheet.specs.Test.{soundTest}
+use Rattle.front.specs.internal.Front.{OffsetsFit, Shape, PolynomialFits, topFrom, Front}
+use Rattle.sheet.specs.internal.Stages.{SplitFits, blockRows, upTo, Computed, SameTerms}
 use Rattle.sheet.proofs.SoundTestLaws.{sound-test}
 use Rattle.sheet.proofs.WorkLaws.{unit-later, top-is}
 
@@ -36,6 +39,20 @@ up-low k a t l = rw (lt-ltb t k l)
 
 pub up-high : (k : ℕ) (a : ℕ → ℕ) (t : ℕ) → k ≤ t → upTo k a t ≡ 0
 up-high k a t l = rw (le-ltb t k l)
+
+-- the header's ten words, from the offsets
+offsets-header : (s : List ℕ) → OffsetsFit s → (i : ℕ) → i < rootsFrom → word s i ≡ word (headerOf (modulus s) (degree s) (width s) (terms s) (count s)) i
+offsets-header s h zero l = refl
+offsets-header s h (suc zero) l = refl
+offsets-header s h (suc (suc zero)) l = refl
+offsets-header s h (suc (suc (suc zero))) l = refl
+offsets-header s h (suc (suc (suc (suc zero)))) l = refl
+offsets-header s h (suc (suc (suc (suc (suc zero))))) l = h .offset-roots
+offsets-header s h (suc (suc (suc (suc (suc (suc zero)))))) l = h .offset-polynomial
+offsets-header s h (suc (suc (suc (suc (suc (suc (suc zero))))))) l = h .offset-factors
+offsets-header s h (suc (suc (suc (suc (suc (suc (suc (suc zero)))))))) l = h .offset-rest
+offsets-header s h (suc (suc (suc (suc (suc (suc (suc (suc (suc zero))))))))) l = h .offset-end
+offsets-header s h (suc (suc (suc (suc (suc (suc (suc (suc (suc (suc i)))))))))) l = absurd (let z : ⊥ = omega arith in z)
 
 -- row j of rows of n words, as it is lent to be compared
 abbrev pub RowSame : (n k : ℕ) (stored computed : List ℕ) → ℕ → Type 0
@@ -98,11 +115,11 @@ module _ (s : List ℕ) (h : Sound s) where
     };
     powers = record { each = h .factors .powers; sum = h .factors .degree };
     offsets = record {
-      offset-roots = h .offset-roots;
-      offset-polynomial = h .offset-polynomial;
-      offset-factors = h .offset-factors;
-      offset-rest = h .offset-rest;
-      offset-end = h .offset-end;
+      offset-roots = h .header 5 (omega arith);
+      offset-polynomial = h .header 6 (omega arith);
+      offset-factors = h .header 7 (omega arith);
+      offset-rest = h .header 8 (omega arith);
+      offset-end = h .header 9 (omega arith);
       long = h .long;
     };
   }
@@ -169,11 +186,7 @@ module _ (s : List ℕ) (h : Front s) (w : ℕ) (rows : List ℕ) (g : Computed 
           width-high = h .shape .header .width-high;
           terms-low = low;
           terms-high = high;
-          offset-roots = h .shape .offsets .offset-roots;
-          offset-polynomial = h .shape .offsets .offset-polynomial;
-          offset-factors = h .shape .offsets .offset-factors;
-          offset-rest = h .shape .offsets .offset-rest;
-          offset-end = h .shape .offsets .offset-end;
+          header = offsets-header s (h .shape .offsets);
           long = h .shape .offsets .long;
           polynomial-reduced = λ j l t u. h .words .reduced j (omega arith) t (omega arith) u;
           polynomial-monic = top-is s h;

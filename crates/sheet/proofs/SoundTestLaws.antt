@@ -10,14 +10,16 @@ use mathlib.Core.Logic.{_↔_}
 use mathlib.Core.Bool.{Bool, true, false}
 use mathlib.Core.List.{List}
 use borrow.Author.Tests.{leb-true, le-leb, ltb-true, lt-ltb, eqb-true, eq-eqb}
-use Rattle.algebra.specs.Fp.{Prime}
+use Rattle.algebra.specs.Prime.{Prime}
 use Rattle.numbers.specs.Divisor.{leastDivisor}
 use Rattle.numbers.proofs.WordsLaws.{true-false}
 use Rattle.numbers.proofs.TestsLaws.{all-at, _&_, none-left, all-of, allTo-at, at-allTo, eqs, square, lower, past}
 use Rattle.numbers.proofs.DivisorLaws.{least-prime, prime-least}
 use Rattle.hensel.specs.Factors.{IsFactors}
-use Rattle.layout.specs.Layout.{modulus, degree, width, terms, power, root, polynomial, factorRows}
-use Rattle.sheet.specs.Sheet.{Sound, primeTest, factorsTest, headerTest, bodyTest, soundTest}
+use Rattle.numbers.specs.Words.{word}
+use Rattle.layout.specs.Layout.{modulus, degree, width, terms, power, root, rootsFrom, polynomial, factorRows}
+use Rattle.sheet.specs.Sheet.{Sound}
+use Rattle.sheet.specs.Test.{primeTest, factorsTest, headerTest, bodyTest, soundTest}
 
 pub prime-test : (p : ℕ) → (primeTest p ≡ true) ↔ Prime p
 unfolding primeTest
@@ -83,12 +85,8 @@ module _ (s : List ℕ) where
           width-high = leb-true _ _ (all-at _ t 4);
           terms-low = leb-true _ _ (all-at _ t 5);
           terms-high = leb-true _ _ (all-at _ t 6);
-          offset-roots = eqb-true _ _ (all-at _ t 7);
-          offset-polynomial = eqb-true _ _ (all-at _ t 8);
-          offset-factors = eqb-true _ _ (all-at _ t 9);
-          offset-rest = eqb-true _ _ (all-at _ t 10);
-          offset-end = eqb-true _ _ (all-at _ t 11);
-          long = leb-true _ _ (all-at _ t 12);
+          header = eqs rootsFrom (word s) _ .0 (all-at _ t 7);
+          long = leb-true _ _ (all-at _ t 8);
           polynomial-reduced = upto (lower (suc (degree s)) (width s) (modulus s) (polynomial s) .0 (all-at _ u 0));
           polynomial-monic = eqs (width s) _ _ .0 (all-at _ u 1);
           factors = factors-test _ _ _ _ _ _ _ _ .0 (all-at _ u 2);
@@ -103,11 +101,7 @@ module _ (s : List ℕ) where
         & le-leb _ _ (h .width-high)
         & le-leb _ _ (h .terms-low)
         & le-leb _ _ (h .terms-high)
-        & eq-eqb _ _ (h .offset-roots)
-        & eq-eqb _ _ (h .offset-polynomial)
-        & eq-eqb _ _ (h .offset-factors)
-        & eq-eqb _ _ (h .offset-rest)
-        & eq-eqb _ _ (h .offset-end)
+        & eqs rootsFrom (word s) _ .1 (h .header)
         & le-leb _ _ (h .long)
         & none-left
         ))

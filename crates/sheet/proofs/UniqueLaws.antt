@@ -12,14 +12,15 @@ use native.Mathlib.Omega.{arith}
 use mathlib.Core.Path.{_≡_, sym, _∙_, ap}
 use mathlib.Core.List.{List}
 use lib.ListN.{take}
-use Rattle.algebra.specs.Sums.{sumTo-ext}
+use Rattle.algebra.proofs.SumsLaws.{sumTo-ext}
 use Rattle.numbers.specs.Words.{word}
 use Rattle.hensel.specs.Factors.{IsFactors, SameFactors, SamePolynomial}
 use Rattle.layout.specs.Layout.{modulus, degree, width, terms, end, polynomial}
 use Rattle.sheet.specs.Sheet.{Sound, Given, Holds}
 use Rattle.hensel.proofs.FactorsLaws.{factors-unique, factors-determine}
 use Rattle.hensel.proofs.BlocksLaws.{Block, locate}
-use Rattle.sheet.proofs.ContentLaws.{Content, contentOf, SameContent, words-same, same-size}
+use Rattle.sheet.specs.internal.Content.{Content, contentOf}
+use Rattle.sheet.proofs.ContentLaws.{SameContent, words-same, same-size}
 use Rattle.sheet.proofs.SheetsLaws.{factorOf, Good, factor-row, sound-good, sound-words, sound-take}
 
 module _ (c c′ : Content) (h : Good c) (h′ : Good c′) (same-modulus : c .p ≡ c′ .p) where

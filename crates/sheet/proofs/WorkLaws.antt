@@ -15,22 +15,24 @@ use mathlib.Core.Bool.{Bool}
 use mathlib.Core.List.{List}
 use lib.ListN.{length, drop, length-drop}
 use lib.Seq.{getD-take, getD-drop, length-take-le}
-use Rattle.algebra.specs.Sums.{sumTo, sumTo-ext}
-use Rattle.numbers.specs.Words.{word, tabulate, over, part, AllBelow}
+use Rattle.algebra.specs.Sums.{sumTo}
+use Rattle.algebra.proofs.SumsLaws.{sumTo-ext}
+use Rattle.numbers.specs.Words.{word, tabulate, over, part}
+use Rattle.numbers.specs.internal.Facts.{AllBelow}
 use Rattle.numbers.proofs.WordsLaws.{length-tabulate, word-tabulate, over-whole}
 use Rattle.rows.specs.Rows.{unit, monic}
 use Rattle.rows.proofs.RowsLaws.{by-row, row-fits}
 use Rattle.rows.proofs.MonicLaws.{monic-low, monic-top}
 use Rattle.hensel.specs.Factors.{split, IsFactors}
-use Rattle.solution.specs.Table.{rowsFrom}
-use Rattle.split.specs.Found.{RootsListed, SplitsAtZero, FactorsTo, Found}
+use Rattle.solution.specs.internal.Table.{rowsFrom}
+use Rattle.split.specs.internal.Found.{RootsListed, SplitsAtZero, FactorsTo, Found}
 use Rattle.hensel.proofs.FactorsLaws.{factors-ext, split-ext}
 use Rattle.layout.specs.declared.Header.{Header}
 use Rattle.layout.specs.Layout.{modulus, degree, width, count, rootsFrom, polynomialFrom, factorsFrom, root, power, polynomial}
-use Rattle.layout.specs.Places.{HeaderIs, Placed}
+use Rattle.layout.specs.internal.Places.{HeaderIs, Placed}
 use Rattle.layout.proofs.PlacesLaws.{lower-within, factors-within}
-use Rattle.front.specs.Front.{topFrom, Front}
-use Rattle.sheet.specs.Stages.{SplitFits, Loaded, blockRows, Computed, WorkedOut}
+use Rattle.front.specs.internal.Front.{topFrom, Front}
+use Rattle.sheet.specs.internal.Stages.{SplitFits, Loaded, blockRows, Computed, WorkedOut}
 
 -- the rows are the polynomial's but for the top one
 pub record LowerRows (s rows : List ℕ) : Type 0 where

@@ -1,3 +1,4 @@
 pub mod Sheet
-pub mod Stages
+pub mod Test
 pub mod Reading
+pub mod internal

@@ -8,22 +8,28 @@ use native.Mathlib.Nat.{mul-comm as mul-commₙ}
 use native.Mathlib.Omega.{arith}
 use lib.ListN.{length, take, drop, set, length-append, List·getD-append, List·getD-eq-default}
 use lib.Seq.{ext-getD, getD-drop, getD-take, length-take-le, drop-at, drop-cons, drop-drop}
-use Rattle.algebra.specs.Ring.{add-comm, zero-add, one-mul, mul-one, pow-zero, pow-suc, zero-mul}
-use Rattle.algebra.specs.Series.{Series, conv, add-at, mul-at}
-use Rattle.algebra.specs.Poly.{const, lin, const-coeff-zero, const-coeff-suc}
-use Rattle.algebra.specs.Fp.{Prime, Fp, p-pos, rem, rem-add}
-use Rattle.algebra.specs.Bridge.{rem-eq, rem-zero, conv-rem}
-use Rattle.numbers.specs.Words.{word, tabulate, over, AllBelow}
+use Rattle.algebra.specs.internal.Ring.{add-comm, zero-add, one-mul, mul-one, zero-mul}
+use Rattle.algebra.proofs.RingLaws.{pow-zero, pow-suc}
+use Rattle.algebra.specs.internal.Series.{Series, conv}
+use Rattle.algebra.proofs.SeriesLaws.{add-at, mul-at}
+use Rattle.algebra.specs.internal.Poly.{const, lin, lines, newton}
+use Rattle.algebra.proofs.PolyLaws.{const-coeff-zero, const-coeff-suc}
+use Rattle.algebra.specs.Prime.{Prime}
+use Rattle.algebra.specs.internal.Fp.{Fp, rem}
+use Rattle.algebra.proofs.FpLaws.{p-pos, rem-add}
+use Rattle.algebra.proofs.BridgeLaws.{rem-eq, rem-zero, conv-rem}
+use Rattle.numbers.specs.Words.{word, tabulate, over}
+use Rattle.numbers.specs.internal.Facts.{AllBelow}
 use Rattle.numbers.specs.Divisor.{inverseOf}
 use Rattle.numbers.proofs.WordsLaws.{length-tabulate, word-tabulate, from, from-is, length-from, word-from, from-below}
 use Rattle.series.proofs.QuotientLaws.{inverse-law}
 use Rattle.rows.specs.Rows.{linePower}
-use Rattle.columns.specs.Column.{hornerWord, hornerWords, digits, undigits, lineTimes, times, lowPart, highPart, Solves}
+use Rattle.columns.specs.internal.Column.{hornerWord, hornerWords, digits, undigits, lineTimes, times, lowPart, highPart, Solves}
 use Rattle.columns.proofs.ColumnLaws.{Sinking, sinking-store, sinking-all, putFrom, put-from, append-below, take-below, line-below, length-line, horner-below, length-horner, horner-words-at, horner-word-rest}
 use Rattle.columns.proofs.SolveLaws.{pol-line, solve-solves}
-use Rattle.algebra.specs.Solution.{lines, newton, lines-zero, lines-suc, newton-zero, newton-suc, newton-ext, digit-step, expand-step}
+use Rattle.algebra.proofs.SolutionLaws.{lines-zero, lines-suc, newton-zero, newton-suc, newton-ext, digit-step, expand-step}
 use Rattle.rows.proofs.ShiftLaws.{root-power}
-use Rattle.solution.specs.Table.{poly, plus, by, Expanded, Digits, beforeWord, nextWord}
+use Rattle.solution.specs.internal.Table.{poly, plus, by, Expanded, Digits, beforeWord, nextWord}
 
 -- words of a list whose part from i on was changed
 module _ (i : ℕ) (e y : List ℕ) (g : i ≤ length e) where

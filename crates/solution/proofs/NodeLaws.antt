@@ -8,18 +8,24 @@ use native.Mathlib.Nat.{mul-le-mul, add-zero as add-zeroₙ}
 use native.Mathlib.Omega.{arith}
 use lib.ListN.{length, take, drop, length-drop, length-append, List·getD-append, List·getD-eq-default}
 use lib.Seq.{getD-drop, getD-take, length-take-le}
-use Rattle.algebra.specs.Ring.{CommRing, IsField}
-use Rattle.algebra.specs.Poly.{lin, eval, poly-lin, NonRoot, nonroot-one, nonroot-mul, nonroot-lin}
-use Rattle.algebra.specs.Fp.{Prime, Fp, p-pos, Fp-field, rem}
-use Rattle.algebra.specs.Bridge.{rem-zero, rem-one, same-rem}
-use Rattle.numbers.specs.Words.{word, tabulate, AllBelow}
+use Rattle.algebra.specs.internal.Ring.{CommRing}
+use Rattle.algebra.proofs.RingLaws.{IsField}
+use Rattle.algebra.specs.internal.Poly.{lin, lines}
+use Rattle.algebra.proofs.PolyLaws.{eval, poly-lin, NonRoot, nonroot-one, nonroot-mul, nonroot-lin}
+use Rattle.algebra.specs.Prime.{Prime}
+use Rattle.algebra.specs.internal.Fp.{Fp, rem}
+use Rattle.algebra.proofs.FpLaws.{p-pos, Fp-field}
+use Rattle.algebra.proofs.BridgeLaws.{rem-zero, rem-one, same-rem}
+use Rattle.numbers.specs.Words.{word, tabulate}
+use Rattle.numbers.specs.internal.Facts.{AllBelow}
 use Rattle.numbers.proofs.WordsLaws.{lt-or-ge, length-tabulate, word-tabulate, from, from-is, length-from}
-use Rattle.columns.specs.Column.{hornerWords, ColumnStored}
+use Rattle.columns.specs.internal.Column.{hornerWords, ColumnStored}
 use Rattle.columns.proofs.ColumnLaws.{putFrom, horner-words-at}
 use Rattle.columns.proofs.SolveLaws.{horner-poly}
-use Rattle.algebra.specs.Solution.{lines, lines-zero, lines-suc, lines-below, lines-top}
-use Rattle.numbers.specs.Limits.{modulusBound, largestDegree}
-use Rattle.solution.specs.Table.{poly, Solution, Lines, FirstSolution, Bases, SplitTo, Split}
+use Rattle.algebra.proofs.SolutionLaws.{lines-zero, lines-suc, lines-below, lines-top}
+use Rattle.numbers.specs.internal.Limits.{modulusBound}
+use Rattle.numbers.specs.Limits.{largestDegree}
+use Rattle.solution.specs.internal.Table.{poly, Solution, Lines, FirstSolution, Bases, SplitTo, Split}
 use Rattle.solution.proofs.DigitsLaws.{put-kept, put-drop, put-long}
 use Rattle.solution.proofs.TableLaws.{first-solution}
 use Rattle.solution.proofs.StepLaws.{same-or-not}

@@ -9,23 +9,28 @@ use native.Mathlib.Omega.{arith}
 use borrow.Author.Tests.{lt-ltb, le-ltb, eq-eqb, ne-eqb}
 use lib.ListN.{length, take, drop, List·getD-eq-default}
 use lib.Seq.{getD-drop, getD-take, length-take-le}
-use Rattle.algebra.specs.Sums.{sumTo, sumTo-zero, sumTo-suc}
-use Rattle.algebra.specs.Ring.{CommRing, add-assoc, add-comm, add-zero, zero-add, mul-zero, mul-comm}
-use Rattle.algebra.specs.Series.{Series, conv, add-at, mul-at}
-use Rattle.algebra.specs.Poly.{const, const-mul}
-use Rattle.algebra.specs.Fp.{Fp, rem, rem-add, rem-mul, rem-mod}
-use Rattle.algebra.specs.Bridge.{rem-zero, same-rem, sub-rem, conv-rem}
-use Rattle.numbers.specs.Words.{word, tabulate, AllBelow}
+use Rattle.algebra.specs.Sums.{sumTo}
+use Rattle.algebra.proofs.SumsLaws.{sumTo-zero, sumTo-suc}
+use Rattle.algebra.specs.internal.Ring.{CommRing, add-assoc, add-comm, add-zero, zero-add, mul-zero, mul-comm}
+use Rattle.algebra.specs.internal.Series.{Series, conv}
+use Rattle.algebra.proofs.SeriesLaws.{add-at, mul-at}
+use Rattle.algebra.specs.internal.Poly.{const}
+use Rattle.algebra.proofs.PolyLaws.{const-mul}
+use Rattle.algebra.specs.internal.Fp.{Fp, rem}
+use Rattle.algebra.proofs.FpLaws.{rem-add, rem-mul, rem-mod}
+use Rattle.algebra.proofs.BridgeLaws.{rem-zero, same-rem, sub-rem, conv-rem}
+use Rattle.numbers.specs.Words.{word, tabulate}
+use Rattle.numbers.specs.internal.Facts.{AllBelow}
 use Rattle.numbers.proofs.WordsLaws.{lt-or-ge, length-tabulate, word-tabulate, from, from-is, length-from}
 use Rattle.rows.specs.Rows.{mul, rowsOf, unit}
-use Rattle.rows.specs.Passes.{passSum, weightSum}
+use Rattle.rows.specs.internal.Passes.{passSum, weightSum}
 use Rattle.rows.proofs.RowsLaws.{rows-below, rows-past, by-row, row-fits}
 use Rattle.rows.proofs.MulLaws.{mul-lt, mul-ext}
-use Rattle.columns.specs.Column.{middleSum, times, ColumnStored}
+use Rattle.columns.specs.internal.Column.{middleSum, times, ColumnStored}
 use Rattle.rows.proofs.MonicLaws.{by-place}
 use Rattle.columns.proofs.SolveLaws.{mul-middle, pass-ext}
-use Rattle.algebra.specs.Solution.{tot, tot-zero, tot-suc, tot-ext, tot-at, assembled}
-use Rattle.solution.specs.Table.{poly, plus, by, lowOf, highOf, Table, Bases, capped, rowsFrom, lowPoly, highPoly, leftAt, Step, SplitTo}
+use Rattle.algebra.proofs.SolutionLaws.{tot, tot-zero, tot-suc, tot-ext, tot-at, assembled}
+use Rattle.solution.specs.internal.Table.{poly, plus, by, lowOf, highOf, Table, Bases, capped, rowsFrom, lowPoly, highPoly, leftAt, Step, SplitTo}
 use Rattle.solution.proofs.TableLaws.{low-at, low-past, high-at, high-past}
 
 pub capped-low : (d x : ℕ) (a : ℕ → ℕ → ℕ) (j t : ℕ) → j < d → capped d x a j t ≡ a j t

@@ -10,20 +10,25 @@ use native.Mathlib.Omega.{arith}
 use borrow.Author.Tests.{lt-ltb, le-ltb}
 use lib.ListN.{length, take, drop, set, length-set, length-append, length-drop, List·getD-append, List·getD-eq-default}
 use lib.Seq.{getD-drop, getD-take, getD-append-add, length-take-le, drop-at, getD-set-same, getD-set-other}
-use Rattle.algebra.specs.Ring.{CommRing, add-comm, add-zero, zero-add, mul-one, mul-zero, neg-mul}
-use Rattle.algebra.specs.Series.{Series, add-at, neg-at, zero-at, one-at}
-use Rattle.algebra.specs.Poly.{const, const-mul, Below}
-use Rattle.algebra.specs.Fp.{Fp, rem, rem-add, rem-mul, rem-mod}
-use Rattle.algebra.specs.Bridge.{rem-zero, rem-one, neg-rem}
-use Rattle.numbers.specs.Words.{word, tabulate, AllBelow}
+use Rattle.algebra.specs.internal.Ring.{CommRing, add-comm, add-zero, zero-add, mul-one, mul-zero}
+use Rattle.algebra.proofs.RingLaws.{neg-mul}
+use Rattle.algebra.specs.internal.Series.{Series}
+use Rattle.algebra.proofs.SeriesLaws.{add-at, neg-at, zero-at, one-at}
+use Rattle.algebra.specs.internal.Poly.{const, lines, newton, mono, up}
+use Rattle.algebra.proofs.PolyLaws.{const-mul, Below}
+use Rattle.algebra.specs.internal.Fp.{Fp, rem}
+use Rattle.algebra.proofs.FpLaws.{rem-add, rem-mul, rem-mod}
+use Rattle.algebra.proofs.BridgeLaws.{rem-zero, rem-one, neg-rem}
+use Rattle.numbers.specs.Words.{word, tabulate}
+use Rattle.numbers.specs.internal.Facts.{AllBelow}
 use Rattle.rows.proofs.RowsLaws.{by-row, row-fits}
 use Rattle.numbers.proofs.WordsLaws.{lt-or-ge, length-tabulate, word-tabulate, from, from-is}
-use Rattle.columns.specs.Column.{firstOnly}
+use Rattle.columns.specs.internal.Column.{firstOnly}
 use Rattle.columns.proofs.ColumnLaws.{append-below, drop-below, putFrom}
-use Rattle.algebra.specs.Solution.{lines, newton, mono, up, newton-ext, newton-zeros, mono-zero, mono-suc, mono-other, up-zero, up-suc, next-solves, next-low, next-high}
+use Rattle.algebra.proofs.SolutionLaws.{newton-ext, newton-zeros, mono-zero, mono-suc, mono-other, up-zero, up-suc, next-solves, next-low, next-high}
 use Rattle.numbers.specs.Limits.{mostRows}
 use Rattle.solution.proofs.DigitsLaws.{put-kept, put-drop, put-long, copied}
-use Rattle.solution.specs.Table.{poly, plus, by, Expanded, Digits, lowOf, highOf, Solution, Table, beforeWord, nextWord, Lines, FirstSolution, Bases}
+use Rattle.solution.specs.internal.Table.{poly, plus, by, Expanded, Digits, lowOf, highOf, Solution, Table, beforeWord, nextWord, Lines, FirstSolution, Bases}
 
 pub low-at : (m : ℕ) (w : ℕ → ℕ) (i : ℕ) → i < m → lowOf m w i ≡ w i
 low-at m w i l = rw (lt-ltb i m l)

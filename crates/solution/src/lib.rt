@@ -8,11 +8,13 @@ use columns::start_row;
 ghost use mathlib.Core.Path.{_≡_};
 ghost use Prim.Native.Nat.{ℕ, _+_, _-_, _*_, _%_, _≤_, _<_};
 ghost use lib.ListN.{length, take, drop};
-ghost use Rattle.algebra.specs.Fp.{Prime};
-ghost use Rattle.numbers.specs.Words.{word, tabulate, AllBelow};
-ghost use Rattle.numbers.specs.Limits.{modulusBound, mostRows};
-ghost use Rattle.columns.specs.Column.{hornerWords, Solves};
-ghost use Rattle.solution.specs.Table.{Expanded, Digits, Solution, Table, nextWord, Lines, FirstSolution, Bases, SplitRoots};
+ghost use Rattle.algebra.specs.Prime.{Prime};
+ghost use Rattle.numbers.specs.Words.{word, tabulate};
+ghost use Rattle.numbers.specs.internal.Facts.{AllBelow};
+ghost use Rattle.numbers.specs.internal.Limits.{modulusBound};
+ghost use Rattle.numbers.specs.Limits.{mostRows};
+ghost use Rattle.columns.specs.internal.Column.{hornerWords, Solves};
+ghost use Rattle.solution.specs.internal.Table.{Expanded, Digits, Solution, Table, nextWord, Lines, FirstSolution, Bases, SplitRoots};
 
 // From digits to coefficients, in place: q_0 + q_1 · (Y − c_0) + q_2 · (Y − c_0)(Y − c_1) + ..
 pub fn expand(p: u32, c: &[u32], e: &mut [u32])

@@ -8,14 +8,19 @@ use native.Mathlib.Nat.{add-zero as add-zeroₙ, zero-add as zero-addₙ, add-mu
 use native.Mathlib.Omega.{arith}
 use lib.ListN.{length, take, drop, length-drop, length-append, List·getD-append}
 use lib.Seq.{getD-drop, getD-take, length-take-le, drop-at}
-use Rattle.algebra.specs.Sums.{sumTo, sumTo-zero, sumTo-suc, sumTo-ext, sumTo-append, sumTo-mono}
-use Rattle.algebra.specs.Ring.{CommRing, prod, prod-zero, prod-suc, mul-one, one-mul, mul-assoc}
-use Rattle.algebra.specs.Series.{Series, mul-agree, prod-agree, mul-at-zero}
-use Rattle.algebra.specs.Columns.{Columns}
-use Rattle.algebra.specs.Chain.{Monic, monic-mul}
-use Rattle.algebra.specs.Fp.{Fp, p-pos, rem}
-use Rattle.algebra.specs.Bridge.{col, same-rem, rem-zero, rem-one}
-use Rattle.numbers.specs.Words.{word, AllBelow}
+use Rattle.algebra.specs.Sums.{sumTo}
+use Rattle.algebra.proofs.SumsLaws.{sumTo-zero, sumTo-suc, sumTo-ext, sumTo-append, sumTo-mono}
+use Rattle.algebra.specs.internal.Ring.{CommRing, prod, mul-one, one-mul, mul-assoc}
+use Rattle.algebra.proofs.RingLaws.{prod-zero, prod-suc}
+use Rattle.algebra.specs.internal.Series.{Series}
+use Rattle.algebra.proofs.SeriesLaws.{mul-agree, prod-agree, mul-at-zero}
+use Rattle.algebra.specs.internal.Poly.{Columns, lines}
+use Rattle.algebra.proofs.Chain.{Monic, monic-mul}
+use Rattle.algebra.specs.internal.Fp.{Fp, rem, col}
+use Rattle.algebra.proofs.FpLaws.{p-pos}
+use Rattle.algebra.proofs.BridgeLaws.{same-rem, rem-zero, rem-one}
+use Rattle.numbers.specs.Words.{word}
+use Rattle.numbers.specs.internal.Facts.{AllBelow}
 use Rattle.numbers.proofs.WordsLaws.{lt-or-ge, from, from-is}
 use Rattle.rows.specs.Rows.{mul, linePower, unit, monic}
 use Rattle.rows.proofs.RowsLaws.{line-lt, row-fits}
@@ -23,10 +28,10 @@ use Rattle.rows.proofs.MulLaws.{mul-rem, mul-ext}
 use Rattle.rows.proofs.MonicLaws.{monic-low, monic-top, monic-above, monic-ext, by-place}
 use Rattle.columns.proofs.ColumnLaws.{putFrom, take-below, drop-below}
 use Rattle.hensel.proofs.FactorsLaws.{monic-rem}
-use Rattle.algebra.specs.Solution.{lines, lines-ext, lines-append, lines-same, lines-below, lines-top}
+use Rattle.algebra.proofs.SolutionLaws.{lines-ext, lines-append, lines-same, lines-below, lines-top}
 use Rattle.rows.proofs.ShiftLaws.{root-power}
-use Rattle.solution.specs.Table.{poly, capped, rowsFrom, Split}
-use Rattle.split.specs.Found.{Roots, NodeReady, factorAt, Factored}
+use Rattle.solution.specs.internal.Table.{poly, capped, rowsFrom, Split}
+use Rattle.split.specs.internal.Found.{Roots, NodeReady, factorAt, Factored}
 use Rattle.solution.proofs.DigitsLaws.{put-kept, put-drop, put-long}
 use Rattle.solution.proofs.StepLaws.{capped-low, capped-top, capped-above}
 

@@ -10,13 +10,18 @@ use native.Mathlib.Numerals.{add-one}
 use native.Mathlib.Omega.{arith}
 use lib.ListN.{length, take, drop, set, length-drop, length-append, List·getD-append}
 use lib.Seq.{getD-set-same, getD-set-other, getD-drop, getD-take, getD-append-add, length-take-le}
-use Rattle.algebra.specs.Sums.{sumTo, sumTo-zero, sumTo-suc, sumTo-mono}
-use Rattle.algebra.specs.Ring.{prod, prod-zero, prod-suc, prod-ext, mul-one}
-use Rattle.algebra.specs.Series.{Series, prod-at-zero}
-use Rattle.algebra.specs.Poly.{linPow}
-use Rattle.algebra.specs.Fp.{Fp, p-pos, rem}
-use Rattle.algebra.specs.Bridge.{col, same-rem, rem-one}
-use Rattle.numbers.specs.Words.{word, tabulate, AllBelow}
+use Rattle.algebra.specs.Sums.{sumTo}
+use Rattle.algebra.proofs.SumsLaws.{sumTo-zero, sumTo-suc, sumTo-mono}
+use Rattle.algebra.specs.internal.Ring.{prod, mul-one}
+use Rattle.algebra.proofs.RingLaws.{prod-zero, prod-suc, prod-ext}
+use Rattle.algebra.specs.internal.Series.{Series}
+use Rattle.algebra.proofs.SeriesLaws.{prod-at-zero}
+use Rattle.algebra.specs.internal.Poly.{linPow, lines}
+use Rattle.algebra.specs.internal.Fp.{Fp, rem, col}
+use Rattle.algebra.proofs.FpLaws.{p-pos}
+use Rattle.algebra.proofs.BridgeLaws.{same-rem, rem-one}
+use Rattle.numbers.specs.Words.{word, tabulate}
+use Rattle.numbers.specs.internal.Facts.{AllBelow}
 use Rattle.numbers.proofs.WordsLaws.{lt-or-ge, length-tabulate, word-tabulate, Writing, writing-none, true-false}
 use Rattle.rows.specs.Rows.{unit, monic}
 use Rattle.rows.proofs.MonicLaws.{monic-low, monic-top, monic-ext, by-place}
@@ -24,10 +29,10 @@ use Rattle.rows.proofs.RowsLaws.{by-row, row-fits}
 use Rattle.hensel.specs.Factors.{rootPower, flat, split}
 use Rattle.hensel.proofs.FactorsLaws.{product-rem, product-lt, factors-ext}
 use Rattle.hensel.proofs.BlocksLaws.{Block, locate}
-use Rattle.algebra.specs.Solution.{lines, lines-zero, lines-ext, lines-append, lines-same, lines-top}
+use Rattle.algebra.proofs.SolutionLaws.{lines-zero, lines-ext, lines-append, lines-same, lines-top}
 use Rattle.rows.proofs.ShiftLaws.{root-power}
-use Rattle.solution.specs.Table.{poly, rowsFrom, Lines}
-use Rattle.split.specs.Found.{Roots, NodeReady, Factored, Spread, RootsListed, SplitsAtZero, Splitting, Cleared, FactorsTo, Found}
+use Rattle.solution.specs.internal.Table.{poly, rowsFrom, Lines}
+use Rattle.split.specs.internal.Found.{Roots, NodeReady, Factored, Spread, RootsListed, SplitsAtZero, Splitting, Cleared, FactorsTo, Found}
 use Rattle.split.proofs.FactorLaws.{prod-append}
 
 module _ (roots powers c : List ℕ) (sp : Spread roots powers (length powers) c) (n : length c ≡ sumTo (length powers) (word powers)) (some : (i : ℕ) → i < length powers → 1 ≤ word powers i)

@@ -5,9 +5,10 @@ ghost use mathlib.Core.Path.{_≡_};
 ghost use Prim.Native.Nat.{ℕ, _+_, _-_, _*_, _≤_, _<_};
 ghost use lib.ListN.{length};
 ghost use Rattle.algebra.specs.Sums.{sumTo};
-ghost use Rattle.numbers.specs.Words.{Decides, word, tabulate};
+ghost use Rattle.numbers.specs.internal.Facts.{Decides};
+ghost use Rattle.numbers.specs.Words.{word, tabulate};
 ghost use Rattle.numbers.specs.Limits.{largestDegree, mostRows, largestWidth};
-ghost use Rattle.split.specs.Found.{NodeReady, Factored, Spread, Cleared, RootsListed, Found};
+ghost use Rattle.split.specs.internal.Found.{NodeReady, Factored, Spread, Cleared, RootsListed, Found};
 
 // The sum of the powers.
 fn total(powers: &[u32]) -> usize

@@ -9,9 +9,10 @@ ghost use mathlib.Core.Bool.{true};
 ghost use mathlib.Core.Path.{_≡_};
 ghost use Prim.Native.Nat.{ℕ, _+_, _-_, _*_, _≤_, _<_};
 ghost use lib.ListN.{length};
-ghost use Rattle.numbers.specs.Words.{word, AllBelow};
+ghost use Rattle.numbers.specs.Words.{word};
+ghost use Rattle.numbers.specs.internal.Facts.{AllBelow};
 ghost use Rattle.numbers.specs.Limits.{largestDegree, largestWidth};
-ghost use Rattle.solution.specs.Table.{SplitTo, SplitReady, SplitRoots, Split};
+ghost use Rattle.solution.specs.internal.Table.{SplitTo, SplitReady, SplitRoots, Split};
 
 // A table of solutions for the largest degree: 32 · 32 words.
 const MOST_CELLS: usize = 1024;

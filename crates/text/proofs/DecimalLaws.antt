@@ -10,7 +10,7 @@ use lib.ListN.{length, take, drop, set, length-append, length-set, length-drop}
 use lib.Seq.{take-all, drop-cons, drop-length, drop-set-lt, getD-set-same}
 use borrow.Author.Tests.{lt-ltb, le-ltb, ltb-false}
 use Rattle.numbers.specs.Words.{choose}
-use Rattle.text.specs.Decimal.{digit, digits, digitsWithin, readOn, readDecimal}
+use Rattle.text.specs.Decimal.{digit, digits, digitsWithin}
 
 -- room enough is room enough
 within : (a b n : ℕ) → n ≤ a → n ≤ b → digitsWithin a n ≡ digitsWithin b n
@@ -63,6 +63,14 @@ within-some (suc room) n = go (ltb n 10)
     go : (t : Bool) → 1 ≤ length (choose t (digit n ∷ []) (digitsWithin room (n / 10) ++ (digit (n % 10) ∷ [])))
     go true = omega arith
     go false = simp length-append (omega arith)
+
+-- the number that digits stand for
+unfoldable pub readOn : ℕ → List ℕ → ℕ
+readOn high [] = high
+readOn high (b ∷ s) = readOn (high * 10 + (b - 48)) s
+
+abbrev pub readDecimal : List ℕ → ℕ
+readDecimal = readOn 0
 
 -- reading goes on from what was read
 read-append : (high : ℕ) (s t : List ℕ) → readOn high (s ++ t) ≡ readOn (readOn high s) t

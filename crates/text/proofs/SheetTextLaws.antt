@@ -8,15 +8,18 @@ use mathlib.Core.Path.{_≡_, refl, sym, ap, ap₂, subst, _∙_, fun-ext}
 use mathlib.Core.List.{List, _++_}
 use lib.ListN.{length, take, drop, length-drop}
 use lib.Seq.{ext-getD, getD-take, getD-drop, length-take-le}
-use Rattle.algebra.specs.Sums.{sumTo, sumTo-suc}
+use Rattle.algebra.specs.Sums.{sumTo}
+use Rattle.algebra.proofs.SumsLaws.{sumTo-suc}
 use Rattle.numbers.specs.Words.{word, tabulate}
 use Rattle.numbers.proofs.WordsLaws.{length-tabulate, word-tabulate}
 use Rattle.layout.proofs.PlacesLaws.{upto-power}
 use Rattle.layout.specs.Layout.{rowsAt, modulus, degree, width, terms, count, root, power, factor, factorsFrom, factorFrom}
-use Rattle.layout.specs.Places.{HeaderIs}
+use Rattle.layout.specs.internal.Places.{HeaderIs}
 use Rattle.layout.specs.declared.Header.{Header}
-use Rattle.text.specs.Limits.{mostDegree, mostWidth, headRoom, rootRoom, rowRoom, factorsRoom, textRoom}
-use Rattle.text.specs.Text.{Puts, Listable, joinTo, rowLine, rowLines, rootLine, headLine, factorText, listingText}
+use Rattle.text.specs.Limits.{mostDegree, mostWidth, textRoom}
+use Rattle.text.specs.internal.Rooms.{headRoom, rootRoom, rowRoom, factorsRoom}
+use Rattle.text.specs.internal.Putting.{Puts, Listable}
+use Rattle.text.specs.Text.{joinTo, rowLine, rowLines, rootLine, headLine, factorText, listingText}
 use Rattle.text.proofs.TextLaws.{puts-none, puts-then, puts-as, join-next}
 
 -- a row where it stands

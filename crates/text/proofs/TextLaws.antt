@@ -11,7 +11,8 @@ use lib.Seq.{set-split, take-at, drop-at, drop-drop, take-suc, take-all, length-
 use Rattle.numbers.specs.Words.{word}
 use Rattle.numbers.proofs.WordsLaws.{from, from-is, length-from}
 use Rattle.text.specs.Decimal.{digits}
-use Rattle.text.specs.Text.{Puts, blank, moreNumbers, numbersText, joinTo}
+use Rattle.text.specs.internal.Putting.{Puts}
+use Rattle.text.specs.Text.{bytes, moreNumbers, numbersText, joinTo}
 
 -- nothing yet
 pub puts-none : (at : ℕ) (old : List ℕ) → at ≤ length old → Puts 0 [] at old at old
@@ -77,10 +78,10 @@ pub copy-all : (bytes : List ℕ) (at : ℕ) (old out : List ℕ) (i : ℕ) → 
 copy-all bytes at old out i f h l = puts-as (length bytes) bytes f (take-all i bytes h) l
 
 -- the numbers up to the next one
-more-next : (s : List ℕ) (y : ℕ) → moreNumbers (s ++ (y ∷ [])) ≡ moreNumbers s ++ (blank ++ digits y)
+more-next : (s : List ℕ) (y : ℕ) → moreNumbers (s ++ (y ∷ [])) ≡ moreNumbers s ++ (bytes " " ++ digits y)
 unfolding moreNumbers
-more-next [] y = ap (λ (t : List ℕ). blank ++ t) (append-nil (digits y))
-more-next (x ∷ s) y = ap (λ (t : List ℕ). blank ++ t) (ap (λ t. digits x ++ t) (more-next s y) ∙ sym (append-assoc (digits x) (moreNumbers s) _))
+more-next [] y = ap (λ (t : List ℕ). bytes " " ++ t) (append-nil (digits y))
+more-next (x ∷ s) y = ap (λ (t : List ℕ). bytes " " ++ t) (ap (λ t. digits x ++ t) (more-next s y) ∙ sym (append-assoc (digits x) (moreNumbers s) _))
 
 -- a loop that puts numbers: at its start, one number further, and at its end
 pub more-start : (s : List ℕ) (at : ℕ) (old : List ℕ) → at ≤ length old → Puts (11 * 0) (moreNumbers (take 0 s)) at old at old
@@ -88,7 +89,7 @@ unfolding moreNumbers
 more-start s at old h = puts-none at old h
 
 pub more-on : (s : List ℕ) (i at : ℕ) {place next : ℕ} {old out new : List ℕ} → i < length s
-    → Puts (11 * i) (moreNumbers (take i s)) at old place out → Puts 11 (blank ++ digits (word s i)) place out next new
+    → Puts (11 * i) (moreNumbers (take i s)) at old place out → Puts 11 (bytes " " ++ digits (word s i)) place out next new
     → Puts (11 * (i + 1)) (moreNumbers (take (i + 1) s)) at old next new
 more-on s i at l f g =
     puts-as (11 * (i + 1)) (moreNumbers (take (i + 1) s)) (puts-then f g)

@@ -1,3 +1,4 @@
 pub mod Limits
 pub mod Decimal
 pub mod Text
+pub mod internal

@@ -1,12 +1,7 @@
--- The limits of a job, and the room that they give a sheet and a text, each by name. A number has at most 10 digits.
+-- The limits of a job, and the room for its text, each by name.
 --   mostDegree, mostWidth   the largest D, and so the most roots, and the largest N
 --   headSize                the bytes of a job's head: six words
---   rootsRoom, rowsRoom     the most words of a job's roots, and of its rows: 13 · 64
---   sheetRoom               the most words of its sheet, 10 + 2 · 12 + 25 · 64
---   refusalRoom, headRoom   the most bytes of the line of a refusal, and of line 1 of a listing: 10 + 2 · 10, 29 + 4 · 10
---   rootRoom, rowRoom       of a factor's first line, 13 + 2 · 10, and of the line of a row, 15 + 11 · 64
---   factorsRoom             of the lines of all factors, 12 · rootRoom + 12 · rowRoom
---   textRoom                of a text: headRoom and factorsRoom are 9,093, and this is 9 KiB
+--   textRoom                the most bytes of a text: 9 KiB, of which 9,093 can be filled
 -- Assumes nothing.
 use Prim.Native.Nat.{ℕ}
 
@@ -18,30 +13,6 @@ mostWidth = 64
 
 abbrev pub headSize : ℕ
 headSize = 12
-
-abbrev pub rootsRoom : ℕ
-rootsRoom = 12
-
-abbrev pub rowsRoom : ℕ
-rowsRoom = 832
-
-abbrev pub sheetRoom : ℕ
-sheetRoom = 1634
-
-abbrev pub refusalRoom : ℕ
-refusalRoom = 30
-
-abbrev pub headRoom : ℕ
-headRoom = 69
-
-abbrev pub rootRoom : ℕ
-rootRoom = 33
-
-abbrev pub rowRoom : ℕ
-rowRoom = 719
-
-abbrev pub factorsRoom : ℕ
-factorsRoom = 9024
 
 abbrev pub textRoom : ℕ
 textRoom = 9216

@@ -3,9 +3,11 @@ ghost use mathlib.Core.List.{_++_};
 ghost use Prim.Native.Nat.{_+_, _*_, _≤_, _<_};
 ghost use lib.ListN.{length};
 ghost use Rattle.layout.specs.Layout.{rowsAt, count, power};
-ghost use Rattle.text.specs.Limits.{mostDegree, mostWidth, refusalRoom, headRoom, rootRoom, rowRoom, factorsRoom, textRoom};
+ghost use Rattle.text.specs.Limits.{mostDegree, mostWidth, textRoom};
+ghost use Rattle.text.specs.internal.Rooms.{refusalRoom, headRoom, rootRoom, rowRoom, factorsRoom};
 ghost use Rattle.text.specs.Decimal.{digits};
-ghost use Rattle.text.specs.Text.{Puts, Listable, moreNumbers, numbersText, joinTo, rowLine, rowLines, rootLine, headLine, factorText, listingText, refusedText};
+ghost use Rattle.text.specs.internal.Putting.{Puts, Listable};
+ghost use Rattle.text.specs.Text.{moreNumbers, numbersText, joinTo, rowLine, rowLines, rootLine, headLine, factorText, listingText, refusedText};
 
 // A byte string.
 pub fn put(bytes: &[u8], at: usize, out: &mut [u8]) -> usize

@@ -10,18 +10,21 @@ use lib.Dec.{ltb}
 use borrow.Author.Tests.{lt-ltb, le-ltb, le-leb, lt-leb}
 use lib.ListN.{length, take, drop, replicate, length-append, length-take, length-drop, length-replicate, getD-replicate, List·getD-append, List·getD-eq-default}
 use lib.Seq.{ext-getD, getD-append-add, getD-drop, getD-take, length-take-le}
-use Rattle.algebra.specs.Sums.{sumTo, sumTo-zero, sumTo-ext, sumTo-bound, sumTo-zeros, sumTo-append}
-use Rattle.numbers.specs.Words.{word, choose, tabulate, AllBelow}
+use Rattle.algebra.specs.Sums.{sumTo}
+use Rattle.algebra.proofs.SumsLaws.{sumTo-zero, sumTo-ext, sumTo-bound, sumTo-zeros, sumTo-append}
+use Rattle.numbers.specs.Words.{word, choose, tabulate}
+use Rattle.numbers.specs.internal.Facts.{AllBelow}
 use Rattle.numbers.proofs.WordsLaws.{lt-or-ge, length-tabulate, word-tabulate, tabulate-ext, tabulate-below, from, word-from, length-from}
-use Rattle.numbers.specs.Limits.{modulusBound, largestDegree, mostRows, largestWidth}
+use Rattle.numbers.specs.internal.Limits.{modulusBound}
+use Rattle.numbers.specs.Limits.{largestDegree, mostRows, largestWidth}
 use Rattle.series.proofs.SeriesLaws.{word-below, sum-next}
 use Rattle.rows.specs.Rows.{rowsOf}
-use Rattle.rows.specs.Passes.{weightSum}
+use Rattle.rows.specs.internal.Passes.{weightSum}
 use Rattle.rows.proofs.RowsLaws.{rows-below, rows-past, passTerm, pass-all, by-row, row-fits}
-use Rattle.columns.specs.Column.{middleSum, ColumnStored}
-use Rattle.solution.specs.Table.{leftAt}
-use Rattle.tiles.specs.Tile.{tileAt, tileRow, TilePut}
-use Rattle.tiled.specs.Tiled.{laneSum, laneTerm, tileSums, Tiled, Sizes, Room}
+use Rattle.columns.specs.internal.Column.{middleSum, ColumnStored}
+use Rattle.solution.specs.internal.Table.{leftAt}
+use Rattle.tiles.specs.internal.Tile.{tileAt, tileRow, TilePut}
+use Rattle.tiled.specs.internal.Tiled.{laneSum, laneTerm, tileSums, Tiled, Sizes, Room}
 use Rattle.tiles.proofs.TileLaws.{word-fits, lane}
 use Rattle.solution.proofs.StepLaws.{same-or-not, left-below}
 

@@ -1,1 +1,1 @@
-pub mod Tiled
+pub mod internal

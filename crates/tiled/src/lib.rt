@@ -11,13 +11,15 @@ ghost use mathlib.Core.Path.{_≡_};
 ghost use mathlib.Core.List.{List};
 ghost use Prim.Native.Nat.{ℕ, _+_, _-_, _*_, _%_, _≤_, _<_};
 ghost use lib.ListN.{length};
-ghost use Rattle.numbers.specs.Words.{word, tabulate, AllBelow};
-ghost use Rattle.numbers.specs.Limits.{modulusBound, largestDegree, mostRows, largestWidth};
-ghost use Rattle.rows.specs.Passes.{weightSum};
-ghost use Rattle.columns.specs.Column.{ColumnStored};
-ghost use Rattle.solution.specs.Table.{Table, Bases, leftAt, Step, SplitTo, SplitReady};
-ghost use Rattle.tiles.specs.Weights.{TableTiled};
-ghost use Rattle.tiled.specs.Tiled.{tileSums, Tiled, Sizes, Room};
+ghost use Rattle.numbers.specs.Words.{word, tabulate};
+ghost use Rattle.numbers.specs.internal.Facts.{AllBelow};
+ghost use Rattle.numbers.specs.internal.Limits.{modulusBound};
+ghost use Rattle.numbers.specs.Limits.{largestDegree, mostRows, largestWidth};
+ghost use Rattle.rows.specs.internal.Passes.{weightSum};
+ghost use Rattle.columns.specs.internal.Column.{ColumnStored};
+ghost use Rattle.solution.specs.internal.Table.{Table, Bases, leftAt, Step, SplitTo, SplitReady};
+ghost use Rattle.tiles.specs.internal.Weights.{TableTiled};
+ghost use Rattle.tiled.specs.internal.Tiled.{tileSums, Tiled, Sizes, Room};
 
 // The most words that stand beside the rows, for parts of degree 31 and 32 that come to 33 rows at the most, and 256 columns.
 const CELLS_ROOM: usize = 1360; // 5 tiles of 8 · 34: the table of solutions

@@ -7,14 +7,17 @@ use Prim.Native.Nat.{ℕ, zero, suc, _+_, _-_, _*_, _/_, _%_, _≤_, _<_}
 use native.Mathlib.Nat.{mod-lt, mod-eq-of-lt, div-add-mod, div-eq-of-lt, mul-add-div, mul-add-mod-self-left, mul-le-mul, add-assoc, add-zero, add-suc, eq-or-lt-of-le}
 use native.Mathlib.Omega.{arith}
 use lib.ListN.{length, take, drop, set, length-set}
-use Rattle.algebra.specs.Sums.{sumTo, sumTo-zero, sumTo-suc, sumTo-ext, sumTo-bound}
-use Rattle.numbers.specs.Words.{word, tabulate, AllBelow}
+use Rattle.algebra.specs.Sums.{sumTo}
+use Rattle.algebra.proofs.SumsLaws.{sumTo-zero, sumTo-suc, sumTo-ext, sumTo-bound}
+use Rattle.numbers.specs.Words.{word, tabulate}
+use Rattle.numbers.specs.internal.Facts.{AllBelow}
 use Rattle.numbers.proofs.WordsLaws.{lt-or-ge, length-tabulate, word-tabulate, tabulate-ext, Writing, writing-none, writing-past, writing-part, from, word-from}
-use Rattle.numbers.specs.Limits.{modulusBound, largestWidth}
+use Rattle.numbers.specs.internal.Limits.{modulusBound}
+use Rattle.numbers.specs.Limits.{largestWidth}
 use Rattle.series.proofs.SeriesLaws.{word-below}
 use Rattle.rows.proofs.RowsLaws.{length-part, writing-whole, row-fits}
 use lib.Seq.{ext-getD, getD-take, getD-drop, getD-set-same, getD-set-other}
-use Rattle.tiles.specs.Tile.{tileStep, tileAdd, tileSum, tileAt, tileRow, TileReady, TilePut}
+use Rattle.tiles.specs.internal.Tile.{tileStep, tileAdd, tileSum, tileAt, tileRow, TileReady, TilePut}
 
 pub word-fits : (x y : ℕ) → x < modulusBound → y < modulusBound → x * y ≤ 281474943156225
 word-fits x y a b = let z : x * y ≤ 16777215 * 16777215 = mul-le-mul {n₂ = 16777215} {m₂ = 16777215} (omega arith) (omega arith) in omega arith

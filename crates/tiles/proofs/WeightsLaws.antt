@@ -9,15 +9,17 @@ use native.Mathlib.Numerals.{add-one}
 use native.Mathlib.Omega.{arith}
 use lib.ListN.{length, take, drop, set}
 use lib.Seq.{drop-at}
-use Rattle.algebra.specs.Sums.{sumTo, sumTo-ext}
-use Rattle.numbers.specs.Words.{word, tabulate, AllBelow}
+use Rattle.algebra.specs.Sums.{sumTo}
+use Rattle.algebra.proofs.SumsLaws.{sumTo-ext}
+use Rattle.numbers.specs.Words.{word, tabulate}
+use Rattle.numbers.specs.internal.Facts.{AllBelow}
 use Rattle.numbers.proofs.WordsLaws.{word-tabulate, tabulate-ext, tabulate-below, Writing, writing-next}
-use Rattle.numbers.specs.Limits.{modulusBound}
+use Rattle.numbers.specs.internal.Limits.{modulusBound}
 use Rattle.series.proofs.SeriesLaws.{word-below}
-use Rattle.rows.specs.Passes.{weightSum}
+use Rattle.rows.specs.internal.Passes.{weightSum}
 use Rattle.rows.proofs.RowsLaws.{length-part, writing-whole}
-use Rattle.tiles.specs.Tile.{tileAt, tileRow, TilePut}
-use Rattle.tiles.specs.Weights.{TableTiled, pairWord}
+use Rattle.tiles.specs.internal.Tile.{tileAt, tileRow, TilePut}
+use Rattle.tiles.specs.internal.Weights.{TableTiled, pairWord}
 use Rattle.tiles.proofs.TileLaws.{step-start, part-word, lane}
 
 -- The first j rows of the table are steps of the tiles.

@@ -1,2 +1,1 @@
-pub mod Tile
-pub mod Weights
+pub mod internal

@@ -2,9 +2,11 @@
 ghost use mathlib.Core.Path.{_≡_};
 ghost use Prim.Native.Nat.{_+_, _-_, _*_, _%_, _≤_, _<_};
 ghost use lib.ListN.{length};
-ghost use Rattle.numbers.specs.Words.{word, tabulate, AllBelow};
-ghost use Rattle.numbers.specs.Limits.{modulusBound, largestWidth};
-ghost use Rattle.tiles.specs.Tile.{tileStep, tileAdd, tileSum, tileRow, TileReady, TilePut};
+ghost use Rattle.numbers.specs.Words.{word, tabulate};
+ghost use Rattle.numbers.specs.internal.Facts.{AllBelow};
+ghost use Rattle.numbers.specs.internal.Limits.{modulusBound};
+ghost use Rattle.numbers.specs.Limits.{largestWidth};
+ghost use Rattle.tiles.specs.internal.Tile.{tileStep, tileAdd, tileSum, tileRow, TileReady, TilePut};
 
 // a[l] += x[l % 2] · w[l], for eight l; x holds one word twice.
 fn tile_step(x: &[u64], w: &[u64], a: &mut [u64])

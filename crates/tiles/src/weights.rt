@@ -6,10 +6,12 @@ ghost use mathlib.Core.Path.{_≡_};
 ghost use mathlib.Core.List.{List};
 ghost use Prim.Native.Nat.{ℕ, _+_, _-_, _*_, _%_, _≤_, _<_};
 ghost use lib.ListN.{length};
-ghost use Rattle.numbers.specs.Words.{word, tabulate, AllBelow};
-ghost use Rattle.numbers.specs.Limits.{modulusBound, mostRows};
-ghost use Rattle.rows.specs.Passes.{weightSum};
-ghost use Rattle.tiles.specs.Weights.{TableTiled, pairWord};
+ghost use Rattle.numbers.specs.Words.{word, tabulate};
+ghost use Rattle.numbers.specs.internal.Facts.{AllBelow};
+ghost use Rattle.numbers.specs.internal.Limits.{modulusBound};
+ghost use Rattle.numbers.specs.Limits.{mostRows};
+ghost use Rattle.rows.specs.internal.Passes.{weightSum};
+ghost use Rattle.tiles.specs.internal.Weights.{TableTiled, pairWord};
 
 // The table's rows as steps of tiles, the last row first.
 pub fn load_table(table: &[u32], n: usize, blocks: usize, tiles: &mut [u64])

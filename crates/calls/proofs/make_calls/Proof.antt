@@ -6,7 +6,7 @@ use native.Mathlib.Omega.{arith}
 use lib.ListN.{length}
 use lib.Seq.{length-take-le}
 use Rattle.numbers.specs.Words.{word}
-use Rattle.calls.specs.Replay.{CallsMade}
+use Rattle.calls.specs.internal.Making.{CallsMade}
 use Rattle.calls.proofs.ReplayLaws.{made-none, made-more, made-all}
 use borrow.Author.Needs.{needs}
 use Rattle.calls.proofs.make_calls.Statement.{statement}

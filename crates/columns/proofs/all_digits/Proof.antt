@@ -7,8 +7,8 @@ use native.Mathlib.Nat.{sub-zero}
 use native.Mathlib.Omega.{arith}
 use lib.ListN.{length, take, drop, take-append-drop}
 use Rattle.numbers.proofs.WordsLaws.{length-from, from-below}
-use Rattle.numbers.specs.Words.{AllBelow}
-use Rattle.columns.specs.Column.{digits}
+use Rattle.numbers.specs.internal.Facts.{AllBelow}
+use Rattle.columns.specs.internal.Column.{digits}
 use Rattle.columns.proofs.ColumnLaws.{digits-zero, digits-turn, digits-turn-length, digits-turn-below}
 use borrow.Author.Needs.{needs}
 use Rattle.columns.proofs.all_digits.Statement.{statement}

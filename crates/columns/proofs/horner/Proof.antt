@@ -6,7 +6,7 @@ use native.Mathlib.Nat.{mod-lt}
 use native.Mathlib.Omega.{arith}
 use lib.ListN.{length}
 use Rattle.numbers.specs.Words.{word}
-use Rattle.columns.specs.Column.{hornerWords}
+use Rattle.columns.specs.internal.Column.{hornerWords}
 use Rattle.columns.proofs.ColumnLaws.{product-fits, Sinking, sinking-store, sinking-all, hornerAt, horner-starts, horner-turn}
 use borrow.Author.Needs.{needs}
 use Rattle.columns.proofs.horner.Statement.{statement}

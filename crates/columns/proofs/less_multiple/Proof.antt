@@ -6,7 +6,7 @@ use native.Mathlib.Omega.{arith}
 use lib.ListN.{length}
 use Rattle.numbers.specs.Words.{word, tabulate}
 use Rattle.numbers.proofs.WordsLaws.{Writing, writing-none, writing-next, writing-all}
-use Rattle.columns.specs.Column.{lessMultiple}
+use Rattle.columns.specs.internal.Column.{lessMultiple}
 use Rattle.columns.proofs.ColumnLaws.{product-fits, lessAt, less-turn}
 use borrow.Author.Needs.{needs}
 use Rattle.columns.proofs.less_multiple.Statement.{statement}

@@ -7,7 +7,7 @@ use lib.ListN.{length, length-set}
 use Rattle.numbers.specs.Words.{tabulate}
 use Rattle.numbers.proofs.WordsLaws.{Writing, writing-next}
 use Rattle.rows.proofs.RowsLaws.{writing-first, writing-whole}
-use Rattle.columns.specs.Column.{firstOnly}
+use Rattle.columns.specs.internal.Column.{firstOnly}
 use Rattle.columns.proofs.ColumnLaws.{first-only-later}
 use borrow.Author.Needs.{needs}
 use Rattle.columns.proofs.start_row.Statement.{statement}

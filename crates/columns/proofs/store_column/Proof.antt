@@ -3,7 +3,7 @@
 use Prim.Native.Nat.{_≤_, _-_}
 use native.Mathlib.Omega.{arith}
 use lib.ListN.{length, take}
-use Rattle.columns.specs.Column.{ColumnStored}
+use Rattle.columns.specs.internal.Column.{ColumnStored}
 use Rattle.columns.proofs.ColumnLaws.{stored-none, stored-next, stored-all}
 use borrow.Author.Needs.{needs}
 use Rattle.rows.proofs.RowsLaws.{row-fits}

@@ -6,7 +6,6 @@ use native.Mathlib.Omega.{arith}
 use lib.ListN.{length}
 use Rattle.numbers.proofs.WordsLaws.{length-tabulate}
 use borrow.Author.Needs.{needs}
-use Rattle.solution.specs.Table.{leftAt}
 use Rattle.solution.proofs.StepLaws.{left-below, combine-room, store-room, step-is}
 use Rattle.direct.proofs.split_column.Statement.{statement}
 use Rattle.direct.proofs.split_column.Tie as tie
@@ -26,7 +25,7 @@ combine-requires c κs =
     let a = start c .args in
     let r = start c .pre in
     let e = c .before .before .before .before .gather-rows .ensures in
-    let n = ap length e ∙ length-tabulate (a .m + a .k) (leftAt (a .p) (a .n) (a .m) (a .k) (a .rows .now) (a .t)) in (
+    let n = ap length e ∙ length-tabulate (a .m + a .k) _ in (
       r .0,
       r .1,
       combine-room (a .m + a .k) _ _ (a .table .now) e (r .7),
@@ -34,7 +33,7 @@ combine-requires c κs =
       omega arith,
       r .9,
       r .11,
-      rw e (left-below (a .p) (a .m) (a .k) (a .n) (a .t) (a .rows .now) (r .0)),
+      rw e (left-below (a .p) (a .m) (a .k) (a .n) _ (a .rows .now) (r .0)),
     )
 
 store-column-requires : tie.Need-store-column-requires
@@ -44,7 +43,7 @@ store-column-requires c κs =
     let e = c .before .before .before .before .combine .ensures in
     let n = ap length e ∙ length-tabulate (a .m + a .k) _ in (
       r .3,
-      r .5,
+      omega (arith, r .4, r .5),
       omega (arith, n),
       store-room (a .m + a .k) (a .n) _ _ (a .rows .now) e (r .6),
     )

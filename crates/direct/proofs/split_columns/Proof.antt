@@ -5,7 +5,7 @@ use Prim.Native.Nat.{_≤_, _-_, _+_}
 use native.Mathlib.Omega.{arith}
 use lib.ListN.{length}
 use borrow.Author.Needs.{needs}
-use Rattle.solution.specs.Table.{SplitTo}
+use Rattle.solution.specs.internal.Table.{SplitTo}
 use Rattle.solution.proofs.StepLaws.{split-none, split-step}
 use Rattle.direct.proofs.split_columns.Statement.{statement}
 use Rattle.direct.proofs.split_columns.Tie as tie

@@ -8,7 +8,7 @@ use Rattle.numbers.specs.Words.{outside}
 use Rattle.numbers.proofs.RefusalsLaws.{not-pass, inside}
 use Rattle.layout.specs.Layout.{reach}
 use Rattle.sheet.specs.Sheet.{Sound}
-use Rattle.sheet.specs.Stages.{Computed}
+use Rattle.sheet.specs.internal.Stages.{Computed}
 use Rattle.extend.proofs.ExtendTotalLaws.{extend-spoiled, extend-outside, extend-behind, extend-reached}
 use borrow.Author.Needs.{needs}
 use Rattle.extend.proofs.check_extend.Statement.{statement}

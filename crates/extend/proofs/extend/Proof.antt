@@ -8,7 +8,7 @@ use lib.Seq.{length-take-le}
 use Rattle.numbers.specs.Refusals.{outcome}
 use Rattle.numbers.proofs.RefusalsLaws.{leave-refused}
 use Rattle.layout.proofs.PlacesLaws.{header-size}
-use Rattle.front.specs.Front.{Front}
+use Rattle.front.specs.internal.Front.{Front}
 use Rattle.front.proofs.FrontLaws.{rows-room}
 use Rattle.sheet.proofs.SoundStagesLaws.{sound-front}
 use Rattle.extend.proofs.ExtendTotalLaws.{extend-spoiled}

@@ -2,10 +2,10 @@
 -- Assumes nothing.
 use native.Mathlib.Omega.{arith}
 use borrow.Author.Tests.{not-true, not-false}
-use Rattle.numbers.specs.Words.{Decides}
+use Rattle.numbers.specs.internal.Facts.{Decides}
 use Rattle.numbers.proofs.TestsLaws.{decides-no}
 use Rattle.layout.specs.Layout.{count, modulus}
-use Rattle.front.specs.Front.{Shape, RootsBelow, RootsRise}
+use Rattle.front.specs.internal.Front.{Shape, RootsBelow, RootsRise}
 use Rattle.front.proofs.FrontLaws.{read-below, read-rise}
 use borrow.Author.Needs.{needs}
 use Rattle.front.proofs.front_fits.Statement.{statement}

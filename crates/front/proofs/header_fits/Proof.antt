@@ -8,7 +8,7 @@ use lib.ListN.{length}
 use Rattle.numbers.specs.Limits.{largestDegree}
 use Rattle.numbers.proofs.TestsLaws.{decides-no, decides-le}
 use Rattle.numbers.proofs.RefusalsLaws.{not-pass}
-use Rattle.front.specs.Front.{OneTo, HeaderFits}
+use Rattle.front.specs.internal.Front.{OneTo, HeaderFits}
 use Rattle.front.proofs.FrontLaws.{ReadFits, read-fits, fits-read}
 use borrow.Author.Needs.{needs}
 use Rattle.front.proofs.header_fits.Statement.{statement}

@@ -5,11 +5,12 @@ use Prim.Native.Nat.{ℕ, _≤_, _<_, _-_, _+_}
 use native.Mathlib.Omega.{arith}
 use borrow.Author.Count.{below-more}
 use borrow.Author.Tests.{not-true, not-false}
-use Rattle.algebra.specs.Sums.{sumTo, sumTo-zero, sumTo-mono}
+use Rattle.algebra.specs.Sums.{sumTo}
+use Rattle.algebra.proofs.SumsLaws.{sumTo-zero, sumTo-mono}
 use Rattle.numbers.proofs.TestsLaws.{decides-no, decides-eq}
 use Rattle.series.proofs.SeriesLaws.{sum-next}
 use Rattle.layout.specs.Layout.{power}
-use Rattle.front.specs.Front.{OneTo}
+use Rattle.front.specs.internal.Front.{OneTo}
 use borrow.Author.Needs.{needs}
 use Rattle.front.proofs.powers_fit.Statement.{statement}
 use Rattle.front.proofs.powers_fit.Tie as tie

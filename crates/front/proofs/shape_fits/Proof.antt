@@ -2,10 +2,10 @@
 -- Assumes nothing.
 use native.Mathlib.Omega.{arith}
 use borrow.Author.Tests.{not-true, not-false}
-use Rattle.numbers.specs.Words.{Decides}
+use Rattle.numbers.specs.internal.Facts.{Decides}
 use Rattle.numbers.proofs.TestsLaws.{decides-no}
 use Rattle.layout.specs.Layout.{count, degree}
-use Rattle.front.specs.Front.{HeaderFits, PowersFit}
+use Rattle.front.specs.internal.Front.{HeaderFits, PowersFit}
 use Rattle.front.proofs.FrontLaws.{read-powers}
 use borrow.Author.Needs.{needs}
 use Rattle.front.proofs.shape_fits.Statement.{statement}

@@ -3,7 +3,8 @@
 use mathlib.Core.Path.{_≡_, ap, _∙_}
 use Prim.Native.Nat.{ℕ, _≤_, _-_}
 use native.Mathlib.Omega.{arith}
-use Rattle.algebra.specs.Sums.{sumTo, sumTo-zero, sumTo-bound}
+use Rattle.algebra.specs.Sums.{sumTo}
+use Rattle.algebra.proofs.SumsLaws.{sumTo-zero, sumTo-bound}
 use Rattle.numbers.specs.Limits.{largestDegree}
 use Rattle.series.proofs.SeriesLaws.{sum-next}
 use Rattle.layout.specs.Layout.{power}

@@ -6,7 +6,8 @@ use Prim.Native.Nat.{ℕ, _+_, _*_, _≤_}
 use native.Mathlib.Omega.{arith}
 use lib.ListN.{length}
 use lib.Seq.{length-take-le}
-use Rattle.text.specs.Limits.{mostDegree, mostWidth, headSize, rootsRoom, rowsRoom}
+use Rattle.text.specs.Limits.{mostDegree, mostWidth, headSize}
+use Rattle.text.specs.internal.Rooms.{rootsRoom, rowsRoom}
 use Rattle.listing.specs.Job.{jobDegree, jobWidth, jobCount}
 use Rattle.listing.proofs.JobLaws.{words-small}
 use Rattle.listing.proofs.ListingLaws.{JobPass, job-pass, load-fits, loaded-long, loaded-first, wrote-job}

@@ -11,7 +11,7 @@ use Rattle.numbers.specs.Refusals.{judge, beyondCheck, behindCheck}
 use Rattle.numbers.specs.declared.refusal.Verdict.the-variants.{Pass}
 use Rattle.numbers.proofs.RefusalsLaws.{after-pass, take-check, skip-check, none-judged, inside}
 use Rattle.series.proofs.CheckLaws.{after-told}
-use Rattle.pair.specs.Pair.{firstChecks, continueChecks}
+use Rattle.pair.specs.Paired.{firstChecks, continueChecks}
 use Rattle.pair.proofs.TestLaws.{continueRows, FirstPass, first-pass, either-first, either-second, either-none}
 use borrow.Author.Needs.{needs}
 use Rattle.pair.proofs.check_continue.Statement.{statement}

@@ -10,7 +10,8 @@ use Rattle.numbers.specs.Refusals.{judge, check, operationChecks}
 use Rattle.numbers.specs.declared.refusal.Verdict.the-variants.{Pass}
 use Rattle.numbers.proofs.RefusalsLaws.{after-pass, take-check, skip-check, none-judged, operation-pass}
 use Rattle.series.proofs.CheckLaws.{after-told}
-use Rattle.pair.specs.Pair.{order, firstChecks}
+use Rattle.pair.specs.Pair.{order}
+use Rattle.pair.specs.Paired.{firstChecks}
 use borrow.Author.Needs.{needs}
 use Rattle.pair.proofs.check_first.Statement.{statement}
 use Rattle.pair.proofs.check_first.Tie as tie

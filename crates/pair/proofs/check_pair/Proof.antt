@@ -6,7 +6,7 @@ use Rattle.numbers.specs.Refusals.{judge, beyondCheck}
 use Rattle.numbers.specs.declared.refusal.Verdict.the-variants.{Pass}
 use Rattle.numbers.proofs.RefusalsLaws.{after-pass, take-check, skip-check, none-judged}
 use Rattle.series.proofs.CheckLaws.{after-told}
-use Rattle.pair.specs.Pair.{firstChecks, pairChecks}
+use Rattle.pair.specs.Paired.{firstChecks, pairChecks}
 use borrow.Author.Needs.{needs}
 use Rattle.pair.proofs.check_pair.Statement.{statement}
 use Rattle.pair.proofs.check_pair.Tie as tie

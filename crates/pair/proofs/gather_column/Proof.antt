@@ -4,7 +4,7 @@ use mathlib.Core.Path.{_≡_, ap, sym}
 use Prim.Native.Nat.{ℕ, _≤_, _+_, _*_}
 use native.Mathlib.Omega.{arith}
 use lib.ListN.{length}
-use Rattle.algebra.specs.Fp.{p-pos}
+use Rattle.algebra.proofs.FpLaws.{p-pos}
 use Rattle.numbers.proofs.RefusalsLaws.{few-words}
 use Rattle.pair.proofs.PartLaws.{pair-below, seam-fits, length-low, length-high, low-below, high-below, gather-rows}
 use borrow.Author.Needs.{needs}

@@ -6,7 +6,7 @@ use native.Mathlib.Nat.{le-refl, le-trans, lt-of-lt-of-le}
 use native.Mathlib.Omega.{arith}
 use lib.Seq.{length-take-le}
 use Rattle.rows.proofs.RowsLaws.{zeros, far, far-words}
-use Rattle.pair.specs.Pair.{PairDone}
+use Rattle.pair.specs.Paired.{PairDone}
 use Rattle.pair.proofs.LiftLaws.{seam-small, seam-inside, front-rows, front-low, load-fits, front-long, front-fits, front-some, front-below, front-value, whole-fits, front-prepared, done-none, done-step, lifting-step}
 use borrow.Author.Needs.{needs}
 use Rattle.pair.proofs.lift.Statement.{statement}

@@ -6,7 +6,7 @@ use lib.ListN.{length}
 use Rattle.numbers.specs.Refusals.{judge}
 use Rattle.numbers.specs.declared.refusal.Verdict.the-variants.{Pass}
 use Rattle.numbers.proofs.RefusalsLaws.{leave-refused, leave-done}
-use Rattle.pair.specs.Pair.{pairChecks, PairDone}
+use Rattle.pair.specs.Paired.{pairChecks, PairDone}
 use Rattle.pair.proofs.LiftLaws.{done-step}
 use Rattle.pair.proofs.AnswerLaws.{PairInput, pair-pass, lifting-of, start-done}
 use borrow.Author.Needs.{needs}
@@ -54,7 +54,7 @@ lift-requires : tie.Need-lift-requires
 lift-requires c κs =
     let i = input (c .before .before .before .before .before .before) in
     let s = started (c .before .before .before) in
-    (lifting-of (i .first) (c .before .before .before .before .before .order-of .ensures) (let z = s .long in omega arith) (s .words), omega arith, i .low, i .high)
+    (lifting-of (i .first) (c .before .before .before .before .before .order-of .ensures) (let z = s .long in omega arith) (s .words), omega arith, omega (arith, i .low), omega (arith, i .low, i .high))
 
 cast-t18 : tie.Need-cast-t18
 cast-t18 c =

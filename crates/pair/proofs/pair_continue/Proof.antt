@@ -5,7 +5,7 @@ use native.Mathlib.Omega.{arith}
 use Rattle.numbers.specs.Refusals.{judge}
 use Rattle.numbers.specs.declared.refusal.Verdict.the-variants.{Pass}
 use Rattle.numbers.proofs.RefusalsLaws.{leave-refused, leave-done}
-use Rattle.pair.specs.Pair.{continueChecks}
+use Rattle.pair.specs.Paired.{continueChecks}
 use Rattle.pair.proofs.AnswerLaws.{ContinueInput, continue-pass, lifting-of}
 use borrow.Author.Needs.{needs}
 use Rattle.pair.proofs.pair_continue.Statement.{statement}

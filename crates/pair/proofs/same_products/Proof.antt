@@ -9,7 +9,7 @@ use borrow.Author.Count.{below-more}
 use borrow.Author.Tests.{not-true, not-false}
 use lib.Dec.{eqb}
 use Rattle.numbers.specs.Words.{allTo}
-use Rattle.numbers.specs.Limits.{modulusBound}
+use Rattle.numbers.specs.internal.Limits.{modulusBound}
 use Rattle.numbers.proofs.RefusalsLaws.{few-words}
 use Rattle.rows.specs.Rows.{mul, monic}
 use Rattle.rows.proofs.RowsLaws.{RowIn, row-in, far, far-words, length-part}

@@ -8,8 +8,8 @@ use Rattle.numbers.specs.Words.{word, tabulate}
 use Rattle.numbers.proofs.WordsLaws.{Writing, writing-none}
 use Rattle.rows.specs.Rows.{table}
 use Rattle.rows.proofs.RowsLaws.{RowIn, row-in, far, far-words, length-part, writing-row, writing-rows}
-use Rattle.columns.specs.Column.{firstOnly}
-use Rattle.pair.specs.Lifting.{startRows}
+use Rattle.columns.specs.internal.Column.{firstOnly}
+use Rattle.pair.specs.internal.Lifting.{startRows}
 use borrow.Author.Needs.{needs}
 use Rattle.pair.proofs.start.Statement.{statement}
 use Rattle.pair.proofs.start.Tie as tie

@@ -5,7 +5,7 @@ use Prim.Native.Nat.{_-_}
 use native.Mathlib.Omega.{arith}
 use lib.ListN.{length}
 use Rattle.numbers.proofs.WordsLaws.{length-from, from-below}
-use Rattle.powers.specs.Powers.{Divided}
+use Rattle.powers.specs.internal.Powers.{Divided}
 use Rattle.powers.proofs.PowersLaws.{divided-none, divided-step, divided-out, divided-stop}
 use borrow.Author.Needs.{needs}
 use Rattle.powers.proofs.divide_out.Statement.{statement}

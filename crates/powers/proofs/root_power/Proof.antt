@@ -6,7 +6,7 @@ use native.Mathlib.Nat.{mod-lt}
 use native.Mathlib.Omega.{arith}
 use lib.ListN.{length, take, length-set}
 use lib.Seq.{length-take-le}
-use Rattle.numbers.specs.Words.{AllBelow}
+use Rattle.numbers.specs.internal.Facts.{AllBelow}
 use Rattle.rows.proofs.RowsLaws.{zeros}
 use Rattle.powers.proofs.LineLaws.{unitAt, unit-below, root-words}
 use borrow.Author.Needs.{needs}

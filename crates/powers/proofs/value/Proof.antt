@@ -6,7 +6,7 @@ use native.Mathlib.Nat.{mod-lt}
 use native.Mathlib.Omega.{arith}
 use lib.ListN.{length}
 use Rattle.numbers.specs.Words.{word}
-use Rattle.columns.specs.Column.{hornerWord}
+use Rattle.columns.specs.internal.Column.{hornerWord}
 use Rattle.columns.proofs.ColumnLaws.{product-fits}
 use Rattle.powers.proofs.PowersLaws.{value-turn, value-starts, value-whole}
 use borrow.Author.Needs.{needs}

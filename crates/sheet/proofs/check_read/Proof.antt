@@ -9,7 +9,8 @@ use Rattle.numbers.specs.Refusals.{judge}
 use Rattle.numbers.proofs.RefusalsLaws.{take-check, skip-check, none-judged}
 use Rattle.layout.specs.Layout.{count}
 use Rattle.layout.proofs.PlacesLaws.{placed-entries}
-use Rattle.sheet.specs.Sheet.{soundTest, soundCheck, indexCheck, readVerdict}
+use Rattle.sheet.specs.Test.{soundTest}
+use Rattle.sheet.specs.Reading.{soundCheck, indexCheck, readVerdict}
 use Rattle.sheet.proofs.SoundTestLaws.{sound-test}
 use Rattle.sheet.proofs.ReadingLaws.{sound-placed}
 use borrow.Author.Needs.{needs}

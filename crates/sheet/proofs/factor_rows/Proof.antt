@@ -2,7 +2,7 @@
 -- Assumes nothing.
 use mathlib.Core.Path.{_≡_, _∙_, sym, refl}
 use Rattle.numbers.specs.declared.refusal.Verdict.the-variants.{Pass, Refuse}
-use Rattle.sheet.specs.Sheet.{readVerdict}
+use Rattle.sheet.specs.Reading.{readVerdict}
 use Rattle.sheet.proofs.ReadingLaws.{read-pass, sound-placed}
 use borrow.Author.Needs.{needs}
 use Rattle.sheet.proofs.factor_rows.Statement.{statement}

@@ -1,14 +1,15 @@
 -- `sheet::factor_times` meets its contract: what follows the two checks is the row product of the part.
 -- Assumes nothing.
 use mathlib.Core.Path.{_≡_, _∙_, sym}
-use Prim.Native.Nat.{_<_}
-use native.Mathlib.Omega.{arith}
+use Prim.Native.Nat.{_+_, _*_, _<_}
+use lib.ListN.{length}
 use Rattle.numbers.specs.declared.refusal.Verdict.the-variants.{Pass}
-use Rattle.numbers.proofs.RefusalsLaws.{answer-refused}
+use Rattle.numbers.proofs.RefusalsLaws.{after-refuse, answer-refused}
+use Rattle.rows.specs.Rows.{productChecks, rowProduct}
 use Rattle.layout.specs.Layout.{count}
-use Rattle.layout.proofs.PlacesLaws.{placed-entries}
-use Rattle.sheet.specs.Sheet.{Sound, readVerdict}
-use Rattle.sheet.proofs.ReadingLaws.{read-pass, sound-placed, times-refused, times-done}
+use Rattle.sheet.specs.Sheet.{Sound}
+use Rattle.sheet.specs.Reading.{readChecks, readVerdict, timesChecks, timesWords}
+use Rattle.sheet.proofs.ReadingLaws.{read-pass, sound-placed, passed-on}
 use borrow.Author.Needs.{needs}
 use Rattle.sheet.proofs.factor_times.Statement.{statement}
 use Rattle.sheet.proofs.factor_times.Tie as tie
@@ -20,7 +21,7 @@ enum-known-r : tie.Need-enum-known-r
 enum-known-r c = search needs
 
 returns : tie.Need-returns
-returns c = let a = c .before .before .before .before .before .before .before .args in answer-refused _ _ _ _ (times-refused (a .sheet .now) (a .i) (a .e) (a .g .now) _ _ (sym (c .before .before .before .check-read .ensures) ∙ c .before .r .given .1))
+returns c = let a = c .before .before .before .before .before .before .before .args in answer-refused _ _ _ _ (after-refuse (readChecks (a .sheet .now) (a .i)) _ _ (sym (c .before .before .before .check-read .ensures) ∙ c .before .r .given .1))
 
 enum-told : tie.Need-enum-told
 enum-told c = search needs
@@ -32,20 +33,11 @@ passed b = sym (b .before .before .check-read .ensures) ∙ b .enum-told .given 
 there : (b : tie.After-enum-told) → let a = b .before .before .before .before .before .before .args in Sound (a .sheet .now) × (a .i < count (a .sheet .now))
 there b = let a = b .before .before .before .before .before .before .args in read-pass (a .sheet .now) (a .i) (passed b)
 
-read-header-requires : tie.Need-read-header-requires
-read-header-requires c κs = let s = c .before .before .before .before .before .before .args .sheet .now in let l = placed-entries s (sound-placed s (there c .0)) in omega arith
-
-power-at-requires : tie.Need-power-at-requires
-power-at-requires c κs = let s = c .before .before .before .before .before .before .before .args .sheet .now in let (sound, i) = there (c .before) in let h = sound-placed s sound in let l = placed-entries s h in (omega arith, omega arith)
-
-sub-degree : tie.Need-sub-degree
-sub-degree c = let b = c .before .before in let (sound, i) = there b in let e = c .power-at .ensures in omega (arith, sound .factors .powers (b .before .before .before .before .before .before .args .i) i)
+factor-shape-requires : tie.Need-factor-shape-requires
+factor-shape-requires c κs = there c
 
 factor-part-requires : tie.Need-factor-part-requires
-factor-part-requires c κs = let (sound, i) = there (c .before .before) in (sound-placed _ sound, i)
-
-cast-product : tie.Need-cast-product
-cast-product c = let h = there (c .before .before .before .before) .0 .width-high in let e = c .before .before .before .read-header .ensures .width-is in omega arith
+factor-part-requires c κs = let (sound, i) = there (c .before) in (sound-placed _ sound, i)
 
 product-requires : tie.Need-product-requires
 product-requires c κs = search needs
@@ -54,11 +46,13 @@ same-length : tie.Need-same-length
 same-length c = search needs
 
 returns-2 : tie.Need-returns-2
+unfolding timesWords
 returns-2 c =
-    let b = c .before .before .before .before .before in
-    let a = b .before .before .before .before .before .before .before .before .before .args in
+    let b = c .before .before .before .before in
+    let a = b .before .before .before .before .before .before .before .before .args in
     let w = c .before .before .product .ensures in
-    times-done (a .sheet .now) (a .i) (a .e) (a .g .now) (a .out .now) _ _ _ (passed (b .before .before .before)) (b .factor-part .ensures) _ (b .before .before .read-header .ensures) _ (b .before .power-at .ensures) (w .0) (w .1)
+    passed-on (λ f x. productChecks (f .p) (f .bound) (a .e) (f .width) x (a .g .now) (length (a .out .now))) (λ f. (f .bound + a .e + 1) * f .width)
+    (λ f x. rowProduct (f .p) (f .bound) (a .e) (f .width) x (a .g .now)) (a .sheet .now) (a .i) (a .out .now) _ _ _ _ (passed (b .before .before)) (b .before .factor-shape .ensures) (b .factor-part .ensures) (w .0) (w .1)
 
 pub factor-times-spec : {M : Type 1} → statement M
 factor-times-spec =
@@ -68,11 +62,8 @@ factor-times-spec =
     enum-known-r
     returns
     enum-told
-    read-header-requires
-    power-at-requires
-    sub-degree
+    factor-shape-requires
     factor-part-requires
-    cast-product
     product-requires
     same-length
     returns-2)

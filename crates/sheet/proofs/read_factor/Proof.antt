@@ -8,7 +8,7 @@ use Rattle.numbers.specs.Limits.{largestDegree}
 use Rattle.numbers.specs.declared.refusal.Verdict.the-variants.{Pass, Refuse}
 use Rattle.layout.specs.Layout.{polynomialFrom}
 use Rattle.layout.proofs.PlacesLaws.{placed-entries}
-use Rattle.sheet.specs.Sheet.{readVerdict}
+use Rattle.sheet.specs.Reading.{readVerdict}
 use Rattle.sheet.proofs.ReadingLaws.{read-pass, sound-placed}
 use borrow.Author.Needs.{needs}
 use Rattle.sheet.proofs.read_factor.Statement.{statement}

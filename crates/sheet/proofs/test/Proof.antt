@@ -7,7 +7,7 @@ use borrow.Author.Tests.{not-true, not-false}
 use lib.Seq.{length-take-le}
 use Rattle.numbers.proofs.TestsLaws.{decides-no}
 use Rattle.layout.proofs.PlacesLaws.{header-size}
-use Rattle.front.specs.Front.{Front}
+use Rattle.front.specs.internal.Front.{Front}
 use Rattle.front.proofs.FrontLaws.{rows-room}
 use Rattle.sheet.proofs.SoundStagesLaws.{sound-front, answers}
 use borrow.Author.Needs.{needs}

@@ -6,7 +6,7 @@ use native.Mathlib.Omega.{arith}
 use lib.ListN.{length}
 use Rattle.numbers.proofs.WordsLaws.{length-from, from-below}
 use borrow.Author.Needs.{needs}
-use Rattle.solution.specs.Table.{Digits}
+use Rattle.solution.specs.internal.Table.{Digits}
 use Rattle.solution.proofs.DigitsLaws.{digits-none, digits-step}
 use Rattle.solution.proofs.digits.Statement.{statement}
 use Rattle.solution.proofs.digits.Tie as tie

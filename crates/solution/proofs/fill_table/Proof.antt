@@ -4,9 +4,10 @@ use mathlib.Core.Path.{_≡_, refl, _∙_}
 use Prim.Native.Nat.{_≤_, _<_, _-_, _+_, _*_}
 use native.Mathlib.Omega.{arith}
 use lib.ListN.{length}
-use Rattle.numbers.specs.Words.{word, AllBelow}
+use Rattle.numbers.specs.Words.{word}
+use Rattle.numbers.specs.internal.Facts.{AllBelow}
 use borrow.Author.Needs.{needs}
-use Rattle.solution.specs.Table.{Solution, Table}
+use Rattle.solution.specs.internal.Table.{Solution, Table}
 use Rattle.solution.proofs.TableLaws.{cell-small, table-after, lent-long, next-solution}
 use native.Mathlib.Nat.{add-sub-cancel-left}
 use Rattle.solution.proofs.fill_table.Statement.{statement}

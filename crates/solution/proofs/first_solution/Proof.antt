@@ -8,7 +8,7 @@ use Rattle.numbers.proofs.WordsLaws.{length-tabulate}
 use borrow.Author.Needs.{needs}
 use Rattle.solution.proofs.TableLaws.{first-is, first-below}
 use lib.Seq.{length-take-le}
-use Rattle.columns.specs.Column.{firstOnly}
+use Rattle.columns.specs.internal.Column.{firstOnly}
 use Rattle.columns.proofs.ColumnLaws.{take-below}
 use Rattle.solution.proofs.first_solution.Statement.{statement}
 use Rattle.solution.proofs.first_solution.Tie as tie

@@ -7,7 +7,7 @@ use native.Mathlib.Omega.{arith}
 use lib.ListN.{length}
 use Rattle.numbers.specs.Words.{word}
 use borrow.Author.Needs.{needs}
-use Rattle.solution.specs.Table.{nextWord}
+use Rattle.solution.specs.internal.Table.{nextWord}
 use Rattle.solution.proofs.DigitsLaws.{next-turn, next-last, next-start}
 use Rattle.columns.proofs.ColumnLaws.{product-fits, Sinking, sinking-store}
 use Rattle.solution.proofs.next_part.Statement.{statement}

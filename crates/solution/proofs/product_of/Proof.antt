@@ -6,7 +6,7 @@ use lib.ListN.{length}
 use Rattle.numbers.proofs.WordsLaws.{length-tabulate}
 use borrow.Author.Needs.{needs}
 use Rattle.solution.proofs.TableLaws.{unit-words, unit-below, unit-long, unit-room}
-use Rattle.columns.specs.Column.{firstOnly}
+use Rattle.columns.specs.internal.Column.{firstOnly}
 use Rattle.solution.proofs.product_of.Statement.{statement}
 use Rattle.solution.proofs.product_of.Tie as tie
 

@@ -3,7 +3,7 @@
 use Prim.Native.Nat.{_+_, _-_, _≤_}
 use native.Mathlib.Omega.{arith}
 use lib.ListN.{length, take}
-use Rattle.text.specs.Text.{Puts}
+use Rattle.text.specs.internal.Putting.{Puts}
 use Rattle.text.proofs.TextLaws.{copy-none, copy-next, copy-all}
 use borrow.Author.Needs.{needs}
 use Rattle.text.proofs.put.Statement.{statement}

@@ -5,8 +5,9 @@ use native.Mathlib.Omega.{arith}
 use Rattle.algebra.specs.Sums.{sumTo}
 use Rattle.layout.specs.Layout.{power}
 use Rattle.layout.proofs.PlacesLaws.{placed-entries}
-use Rattle.text.specs.Limits.{rootRoom, rowRoom}
-use Rattle.text.specs.Text.{Puts, joinTo, factorText}
+use Rattle.text.specs.internal.Rooms.{rootRoom, rowRoom}
+use Rattle.text.specs.internal.Putting.{Puts}
+use Rattle.text.specs.Text.{joinTo, factorText}
 use Rattle.text.proofs.SheetTextLaws.{factors-none, factors-on, factors-room, factors-end}
 use borrow.Author.Needs.{needs}
 use Rattle.text.proofs.put_factors.Statement.{statement}

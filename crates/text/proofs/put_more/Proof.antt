@@ -7,14 +7,15 @@ use native.Mathlib.Omega.{arith}
 use lib.ListN.{length, take}
 use Rattle.numbers.specs.Words.{word}
 use Rattle.text.specs.Decimal.{digits}
-use Rattle.text.specs.Text.{Puts, moreNumbers, blank}
+use Rattle.text.specs.internal.Putting.{Puts}
+use Rattle.text.specs.Text.{moreNumbers, bytes}
 use Rattle.text.proofs.TextLaws.{puts-as, more-start, more-on, more-end}
 use borrow.Author.Needs.{needs}
 use Rattle.text.proofs.put_more.Statement.{statement}
 use Rattle.text.proofs.put_more.Tie as tie
 
 abbrev Inv-loop : tie.InvT-loop
-Inv-loop words at out₀ place₀ i₀ t6 out place i = (i ≤ length words) × Puts (11 * i) (moreNumbers (take i words)) at out₀ place out × (t6 ≡ blank)
+Inv-loop words at out₀ place₀ i₀ t6 out place i = (i ≤ length words) × Puts (11 * i) (moreNumbers (take i words)) at out₀ place out × (t6 ≡ bytes " ")
 
 abbrev μ-loop : tie.MeasureT-loop
 μ-loop words at out₀ place₀ i₀ t6 out place i = length words - i
@@ -47,7 +48,7 @@ loop-again c =
     let e = l .inv .2 in (
       omega arith,
       more-on s (l .i) _ (omega arith) (l .inv .1)
-          (puts-as 11 (blank ++ digits (word s (l .i))) (c .before .before .put-named .ensures) (ap (λ (x : List ℕ). x ++ digits (word s (l .i))) e) (omega (arith, ap length e))),
+          (puts-as 11 (bytes " " ++ digits (word s (l .i))) (c .before .before .put-named .ensures) (ap (λ (x : List ℕ). x ++ digits (word s (l .i))) e) (omega (arith, ap length e))),
       e,
     )
 

@@ -5,8 +5,9 @@ use Prim.Native.Nat.{_+_, _-_, _*_, _≤_}
 use native.Mathlib.Omega.{arith}
 use lib.ListN.{length}
 use Rattle.layout.specs.Layout.{rowsAt}
-use Rattle.text.specs.Limits.{rowRoom}
-use Rattle.text.specs.Text.{Puts, rowLines}
+use Rattle.text.specs.internal.Rooms.{rowRoom}
+use Rattle.text.specs.internal.Putting.{Puts}
+use Rattle.text.specs.Text.{rowLines}
 use Rattle.text.proofs.SheetTextLaws.{rows-start, rows-on, rows-end, row-long, row-fits}
 use borrow.Author.Needs.{needs}
 use Rattle.text.proofs.put_rows.Statement.{statement}

@@ -8,9 +8,9 @@ use Rattle.numbers.specs.Words.{word}
 use borrow.Author.Needs.{needs}
 use native.Mathlib.Nat.{add-sub-cancel-left}
 use Rattle.numbers.proofs.WordsLaws.{from-below}
-use Rattle.numbers.specs.Limits.{modulusBound}
+use Rattle.numbers.specs.internal.Limits.{modulusBound}
 use Rattle.rows.proofs.RowsLaws.{row-fits}
-use Rattle.tiled.specs.Tiled.{tileSums}
+use Rattle.tiled.specs.internal.Tiled.{tileSums}
 use Rattle.tiled.proofs.TiledLaws.{sums-none, sums-step, sums-all, sums-bound, row-room, part-long, part-below}
 use Rattle.tiled.proofs.middle_sums.Statement.{statement}
 use Rattle.tiled.proofs.middle_sums.Tie as tie

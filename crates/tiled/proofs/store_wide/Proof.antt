@@ -5,7 +5,7 @@ use native.Mathlib.Omega.{arith}
 use lib.ListN.{length, take}
 use borrow.Author.Needs.{needs}
 use Rattle.rows.proofs.RowsLaws.{row-fits}
-use Rattle.columns.specs.Column.{ColumnStored}
+use Rattle.columns.specs.internal.Column.{ColumnStored}
 use Rattle.columns.proofs.ColumnLaws.{stored-none, stored-next, stored-all}
 use Rattle.tiled.proofs.store_wide.Statement.{statement}
 use Rattle.tiled.proofs.store_wide.Tie as tie

@@ -5,10 +5,10 @@ use Prim.Native.Nat.{_+_, _≤_, _-_}
 use native.Mathlib.Omega.{arith}
 use lib.ListN.{length}
 use borrow.Author.Needs.{needs}
-use Rattle.numbers.specs.Limits.{modulusBound}
-use Rattle.solution.specs.Table.{SplitTo}
+use Rattle.numbers.specs.internal.Limits.{modulusBound}
+use Rattle.solution.specs.internal.Table.{SplitTo}
 use Rattle.solution.proofs.StepLaws.{split-none, split-step}
-use Rattle.tiled.specs.Tiled.{Tiled}
+use Rattle.tiled.specs.internal.Tiled.{Tiled}
 use Rattle.tiled.proofs.TiledLaws.{below-more, tiled-none}
 use Rattle.tiled.proofs.tiled_columns.Statement.{statement}
 use Rattle.tiled.proofs.tiled_columns.Tie as tie

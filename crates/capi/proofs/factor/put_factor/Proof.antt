@@ -6,7 +6,7 @@ use native.Mathlib.Omega.{arith}
 use lib.ListN.{length, length-set}
 use Rattle.numbers.specs.Limits.{largestDegree}
 use Rattle.layout.specs.Layout.{polynomialFrom, factorSize}
-use Rattle.layout.specs.Places.{Placed}
+use Rattle.layout.specs.internal.Places.{Placed}
 use Rattle.layout.proofs.PlacesLaws.{placed-entries, Small, factor-small}
 use Rattle.sheet.proofs.ReadingLaws.{sound-placed}
 use Rattle.capi.proofs.FactorLaws.{factor-put}

@@ -8,7 +8,7 @@ use Rattle.numbers.specs.Words.{word}
 use Rattle.numbers.proofs.WordsLaws.{Writing, writing-none, over-whole}
 use Rattle.rows.specs.Rows.{table}
 use Rattle.rows.proofs.RowsLaws.{length-table, writing-rows}
-use Rattle.layout.specs.Layout.{rootTable}
+use Rattle.layout.specs.internal.Places.{rootTable}
 use Rattle.layout.proofs.WritingLaws.{pair-more}
 use borrow.Author.Needs.{needs}
 use Rattle.layout.proofs.writing.write_roots.Statement.{statement}

@@ -5,7 +5,8 @@ use mathlib.Core.List.{List}
 use Prim.Native.Nat.{ℕ, _+_, _*_, _≤_}
 use native.Mathlib.Omega.{arith}
 use borrow.Author.Tests.{lt-ltb, le-ltb, eq-eqb, ne-eqb}
-use Rattle.text.specs.Limits.{mostDegree, headSize, rowsRoom}
+use Rattle.text.specs.Limits.{mostDegree, headSize}
+use Rattle.text.specs.internal.Rooms.{rowsRoom}
 use Rattle.listing.specs.Job.{half, jobCount}
 use Rattle.listing.proofs.JobLaws.{words-small}
 use borrow.Author.Needs.{needs}

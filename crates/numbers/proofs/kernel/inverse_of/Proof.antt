@@ -9,7 +9,7 @@ use native.Mathlib.Nat.{mod-lt, mod-eq-of-lt, one-mul, mul-le-mul, div-le-self, 
 use Rattle.numbers.proofs.DivisorLaws.{prime-none, inverse-step, inverse-is}
 use Rattle.numbers.proofs.kernel.inverse_of.Statement.{statement}
 use Rattle.numbers.proofs.kernel.inverse_of.Tie as tie
-use Rattle.numbers.specs.Limits.{modulusBound}
+use Rattle.numbers.specs.internal.Limits.{modulusBound}
 
 abbrev Inv-loop : tie.InvT-loop
 Inv-loop p a modulus m₀ c₀ m c = (1 ≤ m) × (m < p) × (c < p) × ((c * a) % p ≡ m)
@@ -47,7 +47,7 @@ loop-again c =
     let i = c .before .loop .inv in
     let m = c .before .loop .m in
     let l : p % m < m = mod-lt p (omega arith) in
-    (pos-of-ne-zero (prime-none (c .before .before .pre .3) m (c .loop-test .taken) (i .1)), omega arith, mod-lt _ (omega arith), inverse-step p _ _ m (i .0) (i .1) (i .3))
+    (pos-of-ne-zero (prime-none (c .before .before .pre .3) m (omega arith) (i .1)), omega arith, mod-lt _ (omega arith), inverse-step p _ _ m (i .0) (i .1) (i .3))
 
 cast-result : tie.Need-cast-result Inv-loop μ-loop
 cast-result c = search needs

@@ -9,7 +9,7 @@ use Rattle.numbers.proofs.WordsLaws.{Writing, writing-none, over-whole}
 use Rattle.numbers.proofs.RefusalsLaws.{few-words}
 use Rattle.rows.specs.Rows.{table}
 use Rattle.rows.proofs.RowsLaws.{row-fits, length-part, length-table, writing-row, writing-rows}
-use Rattle.columns.specs.Column.{firstOnly}
+use Rattle.columns.specs.internal.Column.{firstOnly}
 use Rattle.hensel.specs.Factors.{flat}
 use Rattle.open.proofs.WritingLaws.{flat-row}
 use borrow.Author.Needs.{needs}

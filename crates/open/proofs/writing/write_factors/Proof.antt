@@ -10,7 +10,7 @@ use Rattle.numbers.proofs.WordsLaws.{Writing}
 use Rattle.numbers.proofs.RefusalsLaws.{few-words}
 use Rattle.rows.specs.Rows.{table}
 use Rattle.rows.proofs.RowsLaws.{length-part}
-use Rattle.open.specs.Writing.{degreeOf, factorTable}
+use Rattle.open.specs.internal.Writing.{degreeOf, factorTable}
 use Rattle.open.proofs.WritingLaws.{power-small, block-fits, factors-none, factors-at, factors-all, at-next, factors-more}
 use borrow.Author.Needs.{needs}
 use Rattle.open.proofs.writing.write_factors.Statement.{statement}

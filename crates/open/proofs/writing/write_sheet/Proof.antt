@@ -5,7 +5,7 @@ use native.Mathlib.Omega.{arith}
 use lib.ListN.{length}
 use Rattle.numbers.specs.Limits.{largestDegree}
 use Rattle.sheet.specs.Sheet.{Given, givenOf}
-use Rattle.open.specs.Writing.{FreshReady}
+use Rattle.open.specs.internal.Writing.{FreshReady}
 use Rattle.open.proofs.SheetWritingLaws.{count-small, Begun, degree-small, roots-part, factors-part, sheet-written}
 use borrow.Author.Needs.{needs}
 use Rattle.open.proofs.writing.write_sheet.Statement.{statement}

@@ -6,7 +6,7 @@ use Prim.Native.Nat.{_*_}
 use native.Mathlib.Nat.{mod-lt, mul-le-mul, le-of-lt, lt-trans}
 use native.Mathlib.Omega.{arith}
 use Rattle.numbers.specs.Refusals.{judge}
-use Rattle.numbers.specs.Limits.{modulusBound}
+use Rattle.numbers.specs.internal.Limits.{modulusBound}
 use Rattle.numbers.specs.declared.refusal.Verdict.the-variants.{Pass}
 use Rattle.residues.specs.Number.{operandChecks, productOf}
 use Rattle.residues.proofs.NumberLaws.{Operands, two-pass, refused-is, accepted-is}

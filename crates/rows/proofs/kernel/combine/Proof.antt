@@ -6,7 +6,7 @@ use native.Mathlib.Nat.{mod-lt}
 use native.Mathlib.Omega.{arith}
 use Rattle.numbers.specs.Words.{tabulate}
 use Rattle.numbers.proofs.WordsLaws.{Writing, writing-none, writing-next}
-use Rattle.rows.specs.Passes.{weightSum}
+use Rattle.rows.specs.internal.Passes.{weightSum}
 use Rattle.rows.proofs.RowsLaws.{writing-whole}
 use borrow.Author.Needs.{needs}
 use Rattle.rows.proofs.kernel.combine.Statement.{statement}

@@ -8,7 +8,7 @@ use native.Mathlib.Omega.{arith}
 use lib.ListN.{length, set, length-set}
 use Rattle.numbers.specs.Words.{tabulate, word}
 use Rattle.numbers.proofs.WordsLaws.{length-tabulate, Writing, writing-next, writing-past}
-use Rattle.rows.specs.Passes.{nextWeight}
+use Rattle.rows.specs.internal.Passes.{nextWeight}
 use Rattle.rows.proofs.RowsLaws.{writing-first, writing-word, writing-whole, before, before-is, before-word, next-first, next-turn}
 use borrow.Author.Needs.{needs}
 use Rattle.rows.proofs.kernel.next_weights.Statement.{statement}

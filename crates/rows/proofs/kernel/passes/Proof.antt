@@ -4,7 +4,7 @@ use mathlib.Core.Path.{_≡_, sym, ap, _∙_}
 use Prim.Native.Nat.{ℕ, _≤_, _<_, _-_, _+_}
 use native.Mathlib.Omega.{arith}
 use Rattle.algebra.specs.Sums.{sumTo}
-use Rattle.numbers.specs.Limits.{modulusBound}
+use Rattle.numbers.specs.internal.Limits.{modulusBound}
 use Rattle.numbers.proofs.WordsLaws.{from-below}
 use Rattle.rows.specs.Rows.{rowsOf}
 use Rattle.rows.proofs.RowsLaws.{passTerm, PassAt, pass-at, far, far-words, pass-none, pass-all, pass-next, pass-fits, row-dot}

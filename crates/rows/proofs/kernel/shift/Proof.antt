@@ -7,7 +7,7 @@ use native.Mathlib.Omega.{arith}
 use lib.ListN.{length, take}
 use lib.Seq.{length-take-le}
 use Rattle.numbers.specs.Limits.{mostRows}
-use Rattle.numbers.specs.Words.{AllBelow}
+use Rattle.numbers.specs.internal.Facts.{AllBelow}
 use Rattle.numbers.proofs.WordsLaws.{Writing, writing-none, from-below}
 use Rattle.rows.specs.Rows.{rowsOf, table, shifted}
 use Rattle.rows.proofs.RowsLaws.{Weights, zeros, RowIn, row-in, far, far-words, length-part, writing-row, writing-rows, weights-first, weights-next, weights-below, length-rest, rest-below, rest-fits, shift-row-is}

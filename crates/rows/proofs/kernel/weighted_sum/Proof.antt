@@ -4,7 +4,8 @@ use mathlib.Core.Path.{_≡_, ap, _∙_}
 use Prim.Native.Nat.{ℕ, _≤_, _-_, _+_, _*_}
 use native.Mathlib.Omega.{arith}
 use lib.ListN.{length}
-use Rattle.algebra.specs.Sums.{sumTo, sumTo-zero}
+use Rattle.algebra.specs.Sums.{sumTo}
+use Rattle.algebra.proofs.SumsLaws.{sumTo-zero}
 use Rattle.series.proofs.SeriesLaws.{sum-next}
 use Rattle.rows.proofs.RowsLaws.{RowIn, row-in, far, weightTerm, weight-bound, weights-bound, weight-is}
 use borrow.Author.Needs.{needs}

@@ -3,7 +3,8 @@
 use mathlib.Core.Path.{_≡_, ap, _∙_}
 use Prim.Native.Nat.{ℕ, _≤_, _-_}
 use native.Mathlib.Omega.{arith}
-use Rattle.algebra.specs.Sums.{sumTo, sumTo-zero}
+use Rattle.algebra.specs.Sums.{sumTo}
+use Rattle.algebra.proofs.SumsLaws.{sumTo-zero}
 use Rattle.series.proofs.SeriesLaws.{dotTerm, sum-next, term-bound, dot-bound, dot-is}
 use borrow.Author.Needs.{needs}
 use Rattle.series.proofs.kernel.dot.Statement.{statement}

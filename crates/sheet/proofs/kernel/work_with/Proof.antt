@@ -3,7 +3,7 @@
 use mathlib.Core.Path.{sym, ap, _∙_}
 use Prim.Native.Nat.{_+_}
 use native.Mathlib.Omega.{arith}
-use Rattle.layout.specs.Places.{Placed}
+use Rattle.layout.specs.internal.Places.{Placed}
 use Rattle.front.proofs.FrontLaws.{shape-placed}
 use Rattle.sheet.proofs.WorkLaws.{LowerRows, lower-long, lower-rows, loaded-sum, work-listed, worked-out}
 use borrow.Author.Needs.{needs}

@@ -5,7 +5,7 @@ use Prim.Native.Nat.{_≤_, _-_, _+_, _*_}
 use native.Mathlib.Omega.{arith}
 use borrow.Author.Needs.{needs}
 use Rattle.split.proofs.FactorsToLaws.{lent-row, cleared-none, cleared-step}
-use Rattle.split.specs.Found.{Cleared}
+use Rattle.split.specs.internal.Found.{Cleared}
 use native.Mathlib.Nat.{add-sub-cancel-left}
 use Rattle.numbers.proofs.RefusalsLaws.{few-words}
 use Rattle.rows.proofs.RowsLaws.{row-fits}

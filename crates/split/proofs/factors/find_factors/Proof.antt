@@ -7,7 +7,7 @@ use borrow.Author.Tests.{not-true, not-false}
 use lib.ListN.{length}
 use Rattle.algebra.specs.Sums.{sumTo}
 use Rattle.numbers.specs.Words.{word}
-use Rattle.split.specs.Found.{Cleared, Splitting}
+use Rattle.split.specs.internal.Found.{Cleared, Splitting}
 use Rattle.split.proofs.FactorsToLaws.{spread-below, begins-splits, splits-begins, found-some, found-none, cleared-splitting, cleared-factors, ready, factors-done}
 use borrow.Author.Needs.{needs}
 use Rattle.split.proofs.factors.find_factors.Statement.{statement}

@@ -7,10 +7,11 @@ use lib.ListN.{length}
 use Rattle.numbers.specs.Words.{word}
 use borrow.Author.Needs.{needs}
 use Rattle.split.proofs.FactorsToLaws.{spread-step, spread-none, spread-room}
-use Rattle.algebra.specs.Sums.{sumTo, sumTo-zero, sumTo-suc}
+use Rattle.algebra.specs.Sums.{sumTo}
+use Rattle.algebra.proofs.SumsLaws.{sumTo-zero, sumTo-suc}
 use native.Mathlib.Numerals.{add-one}
 use native.Mathlib.Nat.{add-sub-cancel-left}
-use Rattle.split.specs.Found.{Spread}
+use Rattle.split.specs.internal.Found.{Spread}
 use Rattle.split.proofs.factors.spread.Statement.{statement}
 use Rattle.split.proofs.factors.spread.Tie as tie
 

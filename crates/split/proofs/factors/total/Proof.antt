@@ -6,7 +6,8 @@ use native.Mathlib.Omega.{arith}
 use lib.ListN.{length}
 use Rattle.numbers.specs.Words.{word}
 use borrow.Author.Needs.{needs}
-use Rattle.algebra.specs.Sums.{sumTo, sumTo-zero, sumTo-suc, sumTo-mono}
+use Rattle.algebra.specs.Sums.{sumTo}
+use Rattle.algebra.proofs.SumsLaws.{sumTo-zero, sumTo-suc, sumTo-mono}
 use native.Mathlib.Numerals.{add-one}
 use Rattle.split.proofs.factors.total.Statement.{statement}
 use Rattle.split.proofs.factors.total.Tie as tie

@@ -3,8 +3,9 @@
 use Prim.Native.Nat.{_-_}
 use mathlib.Core.Path.{sym, ap, subst, _∙_}
 use lib.ListN.{length}
-use Rattle.numbers.specs.Words.{tabulate, AllBelow}
-use Rattle.tiles.specs.Tile.{tileSum}
+use Rattle.numbers.specs.Words.{tabulate}
+use Rattle.numbers.specs.internal.Facts.{AllBelow}
+use Rattle.tiles.specs.internal.Tile.{tileSum}
 use borrow.Author.Needs.{needs}
 use Rattle.tiles.proofs.tile.tile.Statement.{statement}
 use Rattle.tiles.proofs.tile.tile.Tie as tie

@@ -3,7 +3,7 @@
 use Prim.Native.Nat.{_-_, _*_}
 use native.Mathlib.Omega.{arith}
 use Rattle.numbers.proofs.WordsLaws.{length-from, from-below}
-use Rattle.numbers.specs.Limits.{modulusBound}
+use Rattle.numbers.specs.internal.Limits.{modulusBound}
 use borrow.Author.Needs.{needs}
 use Rattle.tiles.proofs.TileLaws.{add-step}
 use Rattle.tiles.proofs.tile.tile_add.Statement.{statement}

@@ -6,9 +6,9 @@ use native.Mathlib.Omega.{arith}
 use borrow.Author.Needs.{needs}
 use Rattle.numbers.specs.Words.{tabulate}
 use Rattle.numbers.proofs.WordsLaws.{length-from, from-below, length-tabulate, over-whole, Writing, writing-all}
-use Rattle.numbers.specs.Limits.{modulusBound}
+use Rattle.numbers.specs.internal.Limits.{modulusBound}
 use Rattle.rows.proofs.RowsLaws.{length-part, row-fits}
-use Rattle.tiles.specs.Tile.{tileRow}
+use Rattle.tiles.specs.internal.Tile.{tileRow}
 use Rattle.tiles.proofs.TileLaws.{step-start, block-below, row-next}
 use Rattle.tiles.proofs.tile.tile_row.Statement.{statement}
 use Rattle.tiles.proofs.tile.tile_row.Tie as tie

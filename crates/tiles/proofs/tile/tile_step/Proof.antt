@@ -7,7 +7,7 @@ use lib.ListN.{length}
 use Rattle.numbers.specs.Words.{word, tabulate}
 use Rattle.numbers.proofs.WordsLaws.{length-tabulate, over-whole, Writing, writing-next, writing-all}
 use borrow.Author.Needs.{needs}
-use Rattle.tiles.specs.Tile.{tileStep}
+use Rattle.tiles.specs.internal.Tile.{tileStep}
 use Rattle.tiles.proofs.TileLaws.{word-fits, step-start, step-turn, old-word, lane}
 use Rattle.tiles.proofs.tile.tile_step.Statement.{statement}
 use Rattle.tiles.proofs.tile.tile_step.Tie as tie

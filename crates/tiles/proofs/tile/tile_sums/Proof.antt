@@ -5,7 +5,7 @@ use Prim.Native.Nat.{_≤_, _+_, _-_}
 use native.Mathlib.Omega.{arith}
 use borrow.Author.Needs.{needs}
 use Rattle.numbers.specs.Words.{tabulate}
-use Rattle.tiles.specs.Tile.{tileSum}
+use Rattle.tiles.specs.internal.Tile.{tileSum}
 use Rattle.tiles.proofs.TileLaws.{sum-none, sum-step, sum-count, sums-long, sums-ready}
 use Rattle.tiles.proofs.tile.tile_sums.Statement.{statement}
 use Rattle.tiles.proofs.tile.tile_sums.Tie as tie

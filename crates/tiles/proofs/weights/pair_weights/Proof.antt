@@ -7,7 +7,7 @@ use lib.ListN.{length, length-set}
 use borrow.Author.Needs.{needs}
 use Rattle.numbers.specs.Words.{tabulate}
 use Rattle.numbers.proofs.WordsLaws.{Writing}
-use Rattle.tiles.specs.Weights.{pairWord}
+use Rattle.tiles.specs.internal.Weights.{pairWord}
 use Rattle.tiles.proofs.WeightsLaws.{pairs-start, pairs-next, written}
 use Rattle.tiles.proofs.weights.pair_weights.Statement.{statement}
 use Rattle.tiles.proofs.weights.pair_weights.Tie as tie

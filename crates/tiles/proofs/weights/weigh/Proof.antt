@@ -4,10 +4,10 @@ use Prim.Native.Nat.{_+_, _*_}
 use mathlib.Core.Path.{sym, ap, subst, _∙_}
 use native.Mathlib.Omega.{arith}
 use lib.ListN.{length}
-use Rattle.numbers.specs.Words.{AllBelow}
+use Rattle.numbers.specs.internal.Facts.{AllBelow}
 use Rattle.numbers.proofs.WordsLaws.{length-tabulate, tabulate-below}
-use Rattle.numbers.specs.Limits.{modulusBound}
-use Rattle.tiles.specs.Weights.{pairWord}
+use Rattle.numbers.specs.internal.Limits.{modulusBound}
+use Rattle.tiles.specs.internal.Weights.{pairWord}
 use Rattle.tiles.proofs.WeightsLaws.{pairs-below, weigh-is}
 use borrow.Author.Needs.{needs}
 use Rattle.tiles.proofs.weights.weigh.Statement.{statement}

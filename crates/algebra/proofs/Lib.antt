@@ -1,0 +1,13 @@
+pub mod SumsLaws
+pub mod RingLaws
+pub mod SeriesLaws
+pub mod PolyLaws
+pub mod Split
+pub mod SolutionLaws
+pub mod Multiplicity
+pub mod ColumnsLaws
+pub mod Lift
+pub mod Chain
+pub mod Shift
+pub mod FpLaws
+pub mod BridgeLaws

@@ -1,0 +1,28 @@
+-- The words of a fresh sheet, with one term, from what open is given and the powers found.
+--   degreeOf powers              D, the sum of the powers
+--   factorTable ..               the factors' rows, 0 from column 1 on: at X = 0 factor i is (Y − c_i)^(m_i)
+--   freshContent, freshWords     what the sheet holds, and its words
+--   FreshReady                   what writing them needs
+-- Assumes nothing.
+use Prim.Native.Nat.{ℕ}
+use mathlib.Core.List.{List}
+use lib.ListN.{length}
+use Rattle.algebra.specs.Sums.{sumTo}
+use Rattle.numbers.specs.Words.{word}
+use Rattle.sheet.specs.Sheet.{Given, given-polynomial}
+use Rattle.sheet.specs.internal.Content.{Content, sheetWords, built, start, stacked, cut, Ready}
+
+abbrev pub degreeOf : List ℕ → ℕ
+degreeOf powers = sumTo (length powers) (word powers)
+
+abbrev pub factorTable : (p : ℕ) (roots powers : List ℕ) → ℕ → ℕ → ℕ
+factorTable p roots powers = cut 1 (stacked (length roots) (word powers) (start p (word roots) (word powers)))
+
+abbrev pub freshContent : Given → List ℕ → Content
+freshContent g powers = built (g .p) (g .D) (g .N) 1 (length (g .roots)) (word (g .roots)) (word powers) (given-polynomial g) (start (g .p) (word (g .roots)) (word powers))
+
+unfoldable pub freshWords : Given → List ℕ → List ℕ
+freshWords g powers = sheetWords (freshContent g powers)
+
+abbrev pub FreshReady : Given → List ℕ → Type 0
+FreshReady g powers = Ready (g .p) (g .D) (g .N) (length (g .roots)) (word (g .roots)) (word powers) (given-polynomial g)

@@ -1,0 +1,4 @@
+-- Definitions that only private contracts cite.
+pub mod Stages
+pub mod Content
+pub mod Shape

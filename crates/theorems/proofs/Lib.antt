@@ -1,0 +1,2 @@
+pub mod TheoremsLaws
+pub mod StarredLaws

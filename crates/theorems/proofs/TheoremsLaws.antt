@@ -1,0 +1,145 @@
+-- The end theorems, from the laws of the crates.
+-- Assumes nothing.
+use Prim.Native.Nat.{ℕ, zero, suc, _+_, _≤_, _<_}
+use native.Mathlib.Omega.{arith}
+use mathlib.Core.Path.{_≡_, refl, sym, _∙_, ap, subst}
+use mathlib.Core.Logic.{⊎-elim}
+use mathlib.Core.Bool.{Bool, true, false}
+use mathlib.Core.List.{List, [], _∷_}
+use lib.ListN.{length}
+use lib.Seq.{ext-getD, take-all}
+use borrow.Author.Tests.{le-ltb, eqb-false, leb-false}
+use Rattle.algebra.specs.Prime.{Prime}
+use Rattle.algebra.proofs.FpLaws.{p-pos}
+use Rattle.numbers.specs.Words.{word, tabulate, firstLarge}
+use Rattle.numbers.specs.internal.Facts.{AllBelow}
+use Rattle.numbers.specs.Refusals.{judge, Outcome, accepted, refused, result, unreduced, operationChecks, inputChecks, beyondCheck, Leaves}
+use Rattle.numbers.specs.One.{TheOne}
+use Rattle.numbers.specs.declared.refusal.Verdict.{Verdict}
+use Rattle.numbers.specs.declared.refusal.Verdict.the-variants.{Pass, Refuse}
+use Rattle.numbers.proofs.WordsLaws.{true-false, lt-or-ge, length-tabulate, word-tabulate, large-there}
+use Rattle.numbers.proofs.RefusalsLaws.{operation-pass, inputs-pass, pass-parts, pass-check, after-pass, skip-check, none-judged, reduced}
+use Rattle.series.specs.Series.{seriesChecks, productColumn, product, quotient}
+use Rattle.series.proofs.SeriesLaws.{length-quotient, quotient-below}
+use Rattle.series.proofs.QuotientLaws.{inverse-law, quotient-product, quotient-unique}
+use Rattle.rows.specs.Rows.{unit}
+use Rattle.rows.proofs.ShiftLaws.{row-shift-back, row-shift-product}
+use Rattle.pair.specs.Pair.{order}
+use Rattle.pair.specs.Paired.{firstChecks, pairChecks, continueChecks, PairDone, Paired, Continued}
+use Rattle.pair.proofs.PairWordsLaws.{pair-test}
+use Rattle.pair.proofs.OneLaws.{paired-one, continued-one, continued-keeps}
+use Rattle.sheet.proofs.SoundTestLaws.{sound-test}
+use Rattle.open.specs.Open.{needed}
+use Rattle.open.proofs.OpeningLaws.{open-ready, sheet-exists}
+use Rattle.open.proofs.OpenTotalLaws.{opened-one}
+use Rattle.extend.proofs.ExtendTotalLaws.{extended-one}
+use Rattle.calls.proofs.Demand3Laws.{demand3}
+use Rattle.calls.proofs.OneLaws.{run-one, count-largest, replayed-one}
+use Rattle.listing.proofs.ListingLaws.{one-listing, listed-only}
+use Rattle.theorems.specs.Theorems.{IsSeries, PairTheorems, SheetTheorems, CallTheorems, RowTheorems, Theorems}
+
+-- a call that was accepted has passed its checks
+was-passed : (v : Verdict) (x d : ℕ) → accepted d ≡ result v x → v ≡ Pass
+was-passed Pass x d e = refl
+was-passed (Refuse r) x d e = true-false (ap is-accepted e)
+  where
+    is-accepted : Outcome ℕ → Bool
+    is-accepted (accepted n) = true
+    is-accepted (refused n k) = false
+
+-- the checks of continuing are those of starting, and two more
+continue-starts : (p D N : ℕ) (f : List ℕ) (h w : ℕ) (old : List ℕ) → judge (continueChecks p D N f h w old) ≡ Pass → judge (pairChecks p D N f w (length old)) ≡ Pass
+continue-starts p D N f h w old e =
+    let m = pass-parts (firstChecks p D N f (length old)) _ e in
+    let s = pass-check _ _ (m .1) in
+    let b = pass-check (beyondCheck N w) _ (s .1) in
+    after-pass (firstChecks p D N f (length old)) (beyondCheck N w ∷ []) (m .0) ∙ skip-check (beyondCheck N w) [] (b .0) ∙ none-judged
+
+continued-pair : (p D N : ℕ) (f : List ℕ) (h w : ℕ) (old : List ℕ) (d : ℕ) (new : List ℕ) → Continued p D N f h w old (accepted d) new → Paired p D N f w old (accepted d) new
+continued-pair p D N f h w old d new x =
+    let e = was-passed (judge (continueChecks p D N f h w old)) (order D N f) d (x .answers) in
+    let s = continue-starts p D N f h w old e in
+    record {
+      answers = x .answers ∙ ap (λ v. result v (order D N f)) (e ∙ sym s);
+      leaves = subst (λ v. Leaves v (PairDone p D N f w old new) old new) (sym s) (subst (λ v. Leaves v (PairDone p D N f w old new) old new) e (x .leaves));
+    }
+
+pair-theorems : PairTheorems
+pair-theorems = record {
+  pair-one = paired-one;
+  continued-one = continued-one;
+  continued-pair = continued-pair;
+  continued-keeps = continued-keeps;
+  pair-test = λ p D N f k s prime bound one. pair-test p D N f prime bound k one s;
+}
+
+sheet-theorems : SheetTheorems
+sheet-theorems = record {
+  sound-test = sound-test;
+  sheet-one = λ g e k low high.
+      let one = sheet-exists g (open-ready g (needed g) e .0) k low high in
+      (one .words, record { is = (one .holds, one .long); only = λ s x. sym (take-all (needed g) s (omega (arith, x .1))) ∙ one .only s (x .0) });
+  open-one = opened-one;
+  extend-one = extended-one;
+}
+
+call-theorems : CallTheorems
+call-theorems = record {
+  run-one = run-one;
+  demand3 = demand3;
+  largest = λ T most cs. count-largest T most 1 cs;
+  replay-one = replayed-one;
+  listing-one = one-listing;
+  listed-only = listed-only;
+}
+
+below-reduced : (p : ℕ) (s : List ℕ) → AllBelow p s → unreduced p s ≡ false
+below-reduced p s b = le-ltb (firstLarge p s) (length s) (⊎-elim
+    (λ (l : firstLarge p s < length s). absurd (let z : ⊥ = omega (arith, large-there p s l, b (firstLarge p s) l) in z))
+    (λ (l : length s ≤ firstLarge p s). l) (lt-or-ge (firstLarge p s) (length s)))
+
+-- the quotient, where p is a prime, f and g are below p and g is not 0 at X = 0; f is given by its first N words
+module _ {p : ℕ} (prime : Prime p) (N : ℕ) (f g F : List ℕ) (f-below : AllBelow p f) (g-below : AllBelow p g) (unit : word g 0 ≡ 0 → ⊥)
+    (long : length F ≡ N) (same : (t : ℕ) → t < N → word F t ≡ word f t) where
+  the-quotient : TheOne (λ h. IsSeries p N h × (product p N h g ≡ F)) (quotient p N f g)
+  unfolding product
+  the-quotient = record {
+    is = (
+      (length-quotient p N f g, below-reduced p (quotient p N f g) (quotient-below p (p-pos prime) N f g)),
+      ext-getD 0 _ F (length-tabulate N _ ∙ sym long) (λ t l.
+          let u : t < N = omega (arith, length-tabulate N (productColumn p (quotient p N f g) g)) in
+          word-tabulate N _ t u ∙ quotient-product prime f g f-below g-below unit N t u ∙ sym (same t u)),
+    );
+    only = λ h x. quotient-unique prime f g f-below g-below unit N h (x .0 .0) (reduced p h (x .0 .1))
+        (λ t u. sym (word-tabulate N (productColumn p h g) t u) ∙ ap (λ s. word s t) (x .1) ∙ same t u);
+  }
+
+row-theorems : RowTheorems
+row-theorems = record {
+  inverse-is = λ p a prime low high. inverse-law prime a low high;
+  quotient-one = λ p N f g e.
+      let m = pass-parts (seriesChecks p N f g N) _ e in
+      let o = operation-pass p N f 1 g 1 1 N (m .0) .inputs in
+      the-quotient (o .modulus .prime) N f g f (o .f-below) (o .g-below) (eqb-false (word g 0) 0 (pass-check _ [] (m .1) .0)) (omega (arith, o .f-long)) (λ t l. refl);
+  inverse-one = λ p N g e.
+      let m = pass-parts (operationChecks p N g 1 [] 0 1 N) _ e in
+      let o = operation-pass p N g 1 [] 0 1 N (m .0) .inputs in
+      the-quotient (o .modulus .prime) N (1 ∷ []) g (tabulate N unit) (one-below p (o .modulus .two)) (o .f-below) (eqb-false (word g 0) 0 (pass-check _ [] (m .1) .0))
+      (length-tabulate N unit) (λ t l. word-tabulate N unit t l ∙ one-word t);
+  shift-back = λ p D N f c e.
+      let m = pass-parts (inputChecks p N f (D + 1) [] 0 (D + 1)) _ e in
+      let o = inputs-pass p N f (D + 1) [] 0 (D + 1) (m .0) in
+      row-shift-back p D N f c (leb-false p c (pass-check _ _ (m .1) .0)) (o .f-long) (o .f-below);
+  shift-product = row-shift-product;
+}
+  where
+    one-below : (p : ℕ) → 2 ≤ p → AllBelow p (1 ∷ [])
+    one-below p two zero l = omega arith
+    one-below p two (suc k) l = omega arith
+
+    one-word : (t : ℕ) → unit t ≡ word (1 ∷ []) t
+    one-word zero = refl
+    one-word (suc t) = refl
+
+pub theorems : Theorems
+theorems = (pair-theorems, sheet-theorems, call-theorems, row-theorems)

@@ -1,0 +1,101 @@
+-- The starred examples of document 01, as one list: closed terms of the definitions that the contracts cite. `starred` in proofs/StarredLaws is
+-- its proof, by evaluation alone.
+--   Starred    the list
+-- Assumes nothing.
+use Prim.Native.Nat.{ℕ}
+use mathlib.Core.Path.{_≡_}
+use mathlib.Core.Bool.{true}
+use mathlib.Core.List.{List, [], _∷_, _++_}
+use mathlib.Core.Option.{some}
+use Rattle.numbers.specs.Refusals.{judge, refusal, modulusChecks}
+use Rattle.numbers.specs.declared.refusal.Verdict.the-variants.{Pass, Refuse}
+use Rattle.pair.specs.Pair.{order}
+use Rattle.pair.specs.Paired.{pairChecks}
+use Rattle.pair.specs.Test.{pairTest}
+use Rattle.sheet.specs.Test.{soundTest}
+use Rattle.sheet.specs.Sheet.{Given, givenOf}
+use Rattle.open.specs.Open.{powersOf, needed, openVerdict}
+use Rattle.extend.specs.Extend.{extendVerdict}
+use Rattle.text.specs.Text.{bytes, listingText}
+use Rattle.listing.specs.Job.{jobGiven, listVerdict}
+
+-- Y² − 1 − X over 7, three terms; its sheet with k terms and these factor rows
+abbrev job : Given
+job = givenOf 7 2 3 (6 ∷ 6 ∷ 0 ∷ 0 ∷ 0 ∷ 0 ∷ 1 ∷ 0 ∷ 0 ∷ []) (1 ∷ 6 ∷ [])
+
+abbrev job-sheet : ℕ → List ℕ → List ℕ
+job-sheet k factors = 7 ∷ 2 ∷ 3 ∷ k ∷ 2 ∷ 10 ∷ 14 ∷ 23 ∷ 29 ∷ 29 ∷ 1 ∷ 1 ∷ 6 ∷ 1 ∷ 6 ∷ 6 ∷ 0 ∷ 0 ∷ 0 ∷ 0 ∷ 1 ∷ 0 ∷ 0 ∷ factors
+
+-- Y³ + Y² + XY + X over 2, two terms
+abbrev double : Given
+double = givenOf 2 3 2 (0 ∷ 1 ∷ 0 ∷ 1 ∷ 1 ∷ 0 ∷ 1 ∷ 0 ∷ []) (0 ∷ 1 ∷ [])
+
+abbrev double-sheet : List ℕ
+double-sheet = 2 ∷ 3 ∷ 2 ∷ 2 ∷ 2 ∷ 10 ∷ 14 ∷ 22 ∷ 28 ∷ 28 ∷ 0 ∷ 2 ∷ 1 ∷ 1 ∷ 0 ∷ 1 ∷ 0 ∷ 1 ∷ 1 ∷ 0 ∷ 1 ∷ 0 ∷ 0 ∷ 1 ∷ 0 ∷ 0 ∷ 1 ∷ 0 ∷ []
+
+-- Y² − 1 over 7 with the root 1 alone
+abbrev alone : Given
+alone = givenOf 7 2 1 (6 ∷ 0 ∷ 1 ∷ []) (1 ∷ [])
+
+-- X + Y + Y², four terms; 2Y + X, two; 1 + Y, one: all over 5
+abbrev pair1 : List ℕ
+pair1 = 0 ∷ 1 ∷ 0 ∷ 0 ∷ 1 ∷ 0 ∷ 0 ∷ 0 ∷ 1 ∷ 0 ∷ 0 ∷ 0 ∷ []
+
+abbrev pair2 : List ℕ
+pair2 = 0 ∷ 1 ∷ 2 ∷ 0 ∷ []
+
+abbrev pair3 : List ℕ
+pair3 = 1 ∷ 1 ∷ []
+
+-- the same job as a file: p, D, N, r, two offsets; two roots; three rows
+abbrev job-file : List ℕ
+job-file =
+    7 ∷ 0 ∷ 2 ∷ 0 ∷ 3 ∷ 0 ∷ 2 ∷ 0 ∷ 12 ∷ 0 ∷ 16 ∷ 0 ∷ []
+    ++ (1 ∷ 0 ∷ 6 ∷ 0 ∷ []
+    ++ (6 ∷ 0 ∷ 6 ∷ 0 ∷ 0 ∷ 0 ∷ 0 ∷ 0 ∷ 0 ∷ 0 ∷ 0 ∷ 0 ∷ 1 ∷ 0 ∷ 0 ∷ 0 ∷ 0 ∷ 0 ∷ []))
+
+-- its listing
+abbrev job-text : List ℕ
+job-text = bytes "mod 7 terms 3 degree 2 factors 2\nroot 1 power 1\nY^0: 6 3 1\nroot 6 power 1\nY^0: 1 4 6\n"
+
+abbrev pub Starred : Type 0
+Starred =
+    -- the job: its sheet has T = 29 words; with three terms the factors have the rows 6 3 1 and 1 4 6
+    (openVerdict job 29 ≡ Pass)
+    × (needed job ≡ 29)
+    × (soundTest (job-sheet 3 (6 ∷ 3 ∷ 1 ∷ 1 ∷ 4 ∷ 6 ∷ [])) ≡ true)
+    -- as a file it is read to that job and passes; the listing of its sheet is the text, byte for byte
+    × (jobGiven job-file ≡ job)
+    × (listVerdict job-file ≡ Pass)
+    × (listingText (job-sheet 3 (6 ∷ 3 ∷ 1 ∷ 1 ∷ 4 ∷ 6 ∷ [])) ≡ job-text)
+    -- p = 2: the factor of root 0 has power 2, rows 0 1 and 0 0; the factor of root 1 has row 1 0
+    × (openVerdict double 28 ≡ Pass)
+    × (powersOf double ≡ some (2 ∷ 1 ∷ []))
+    × (soundTest double-sheet ≡ true)
+    -- p = 5, N = 4, X + Y + Y²: order 1, b_0 = 0 1 1 2, c_0 = 1 4 4 3, c_1 = 1 0 0 0
+    × (judge (pairChecks 5 2 4 pair1 4 12) ≡ Pass)
+    × (order 2 4 pair1 ≡ 1)
+    × (pairTest 5 2 4 pair1 4 (0 ∷ 1 ∷ 1 ∷ 2 ∷ 1 ∷ 4 ∷ 4 ∷ 3 ∷ 1 ∷ 0 ∷ 0 ∷ 0 ∷ []) ≡ true)
+    -- p = 5, N = 2, 2Y + X: b_0 = 0 3, c_0 = 2 0
+    × (judge (pairChecks 5 1 2 pair2 2 4) ≡ Pass)
+    × (order 1 2 pair2 ≡ 1)
+    × (pairTest 5 1 2 pair2 2 (0 ∷ 3 ∷ 2 ∷ 0 ∷ []) ≡ true)
+    -- p = 5, N = 1, 1 + Y: order 0, c_0 = 1, c_1 = 1
+    × (judge (pairChecks 5 1 1 pair3 1 2) ≡ Pass)
+    × (order 1 1 pair3 ≡ 0)
+    × (pairTest 5 1 1 pair3 1 (1 ∷ 1 ∷ []) ≡ true)
+    -- p = 7, Y² − 1, roots 1 alone: 9
+    × (openVerdict alone 100 ≡ Refuse (refusal 9 0))
+    -- p = 91: 2, detail 7; p = 65,521 passes, 65,535 gives 2 with 3, 65,536 gives 1
+    × (judge (modulusChecks 91) ≡ Refuse (refusal 2 7))
+    × (judge (modulusChecks 65521) ≡ Pass)
+    × (judge (modulusChecks 65535) ≡ Refuse (refusal 2 3))
+    × (judge (modulusChecks 65536) ≡ Refuse (refusal 1 0))
+    -- w = N passes, N + 1 is 14, 0 is 14
+    × (extendVerdict (job-sheet 1 (6 ∷ 0 ∷ 0 ∷ 1 ∷ 0 ∷ 0 ∷ [])) 3 ≡ Pass)
+    × (extendVerdict (job-sheet 1 (6 ∷ 0 ∷ 0 ∷ 1 ∷ 0 ∷ 0 ∷ [])) 4 ≡ Refuse (refusal 14 0))
+    × (extendVerdict (job-sheet 1 (6 ∷ 0 ∷ 0 ∷ 1 ∷ 0 ∷ 0 ∷ [])) 0 ≡ Refuse (refusal 14 0))
+    -- and so for the pair
+    × (judge (pairChecks 5 2 4 pair1 4 12) ≡ Pass)
+    × (judge (pairChecks 5 2 4 pair1 5 12) ≡ Refuse (refusal 14 0))
+    × (judge (pairChecks 5 2 4 pair1 0 12) ≡ Refuse (refusal 14 0))

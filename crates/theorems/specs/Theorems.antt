@@ -1,0 +1,84 @@
+-- The end theorems, in a row: what is promised of the calls, each with one plain sentence. `theorems` in proofs/TheoremsLaws proves them all.
+--   IsSeries p N s     s is a series of N words below p
+--   PairTheorems, SheetTheorems, CallTheorems, RowTheorems, Theorems   the theorems, and all of them
+-- Assumes nothing.
+use Prim.Native.Nat.{ℕ, _+_, _-_, _*_, _%_, _≤_, _<_}
+use mathlib.Core.Path.{_≡_}
+use mathlib.Core.Logic.{_↔_}
+use mathlib.Core.Bool.{true, false}
+use mathlib.Core.List.{List, [], _∷_}
+use lib.ListN.{length}
+use Rattle.algebra.specs.Prime.{Prime}
+use Rattle.numbers.specs.Words.{word, tabulate}
+use Rattle.numbers.specs.Divisor.{inverseOf}
+use Rattle.numbers.specs.Refusals.{judge, Outcome, accepted, unreduced}
+use Rattle.numbers.specs.One.{TheOne, One, OneOutcome}
+use Rattle.numbers.specs.declared.refusal.Verdict.the-variants.{Pass}
+use Rattle.series.specs.Series.{inverseChecks, quotientChecks, product, quotient}
+use Rattle.rows.specs.Rows.{shiftChecks, rowProduct, rowShift, unit}
+use Rattle.pair.specs.Pair.{order, PairWords}
+use Rattle.pair.specs.Test.{pairTest}
+use Rattle.pair.specs.Paired.{Paired, Continued}
+use Rattle.sheet.specs.Sheet.{Sound, Given, given-reach, Holds}
+use Rattle.sheet.specs.Test.{soundTest}
+use Rattle.open.specs.Open.{needed, openVerdict, Opened}
+use Rattle.extend.specs.Extend.{Extended}
+use Rattle.calls.specs.Calls.{Call, Run, Lendable, countAnswers, countTerms, largestAccepted, Demand3}
+use Rattle.calls.specs.Replay.{Replayed}
+use Rattle.listing.specs.Listing.{IsListing, Listed}
+
+abbrev pub IsSeries : (p N : ℕ) → List ℕ → Type 0
+IsSeries p N s = (length s ≡ N) × (unreduced p s ≡ false)
+
+-- The Weierstrass pair.
+pub record PairTheorems : Type 0 where
+  -- The pair to w terms exists and is the only one: every call has exactly one outcome, refused or accepted, to the last word.
+  pub pair-one : (p D N : ℕ) (f : List ℕ) (w : ℕ) (old : List ℕ) → OneOutcome (Paired p D N f w old)
+  pub continued-one : (p D N : ℕ) (f : List ℕ) (h w : ℕ) (old : List ℕ) → OneOutcome (Continued p D N f h w old)
+  -- A pair that is continued is the pair started afresh.
+  pub continued-pair : (p D N : ℕ) (f : List ℕ) (h w : ℕ) (old : List ℕ) (d : ℕ) (new : List ℕ) → Continued p D N f h w old (accepted d) new → Paired p D N f w old (accepted d) new
+  -- Continuing changes columns h..w − 1 of the D + 1 rows and no other word.
+  pub continued-keeps : (p D N : ℕ) (f : List ℕ) (h w : ℕ) (old : List ℕ) (answer : Outcome ℕ) (new : List ℕ) → Continued p D N f h w old answer new
+      → (i : ℕ) → ¬ ((i < (D + 1) * N) × (h ≤ i % N) × (i % N < w)) → word new i ≡ word old i
+  -- The test behind refusal 13 is the pair's conditions.
+  pub pair-test : (p D N : ℕ) (f : List ℕ) (k : ℕ) (s : List ℕ) → Prime p → order D N f ≤ D → 1 ≤ k → (pairTest p D N f k s ≡ true) ↔ PairWords p D N f k s
+
+-- The factor sheet.
+pub record SheetTheorems : Type 0 where
+  -- The test is soundness.
+  pub sound-test : (s : List ℕ) → (soundTest s ≡ true) ↔ Sound s
+  -- The sound sheet exists and is the only one, for all that open accepts and each number of terms up to the most.
+  pub sheet-one : (g : Given) → openVerdict g (needed g) ≡ Pass → (k : ℕ) → 1 ≤ k → k ≤ given-reach g → One (λ s. Holds g k s × (length s ≡ needed g))
+  -- Open and extend have exactly one outcome on every input.
+  pub open-one : (g : Given) (old : List ℕ) → OneOutcome (Opened g old)
+  pub extend-one : (old : List ℕ) (w : ℕ) → OneOutcome (Extended old w)
+
+-- Lists of calls, and jobs.
+pub record CallTheorems : Type 0 where
+  -- Every list of calls on every slice has exactly one run, where no call lends more words than there are.
+  pub run-one : (s : List ℕ) (cs : List Call) → Lendable (length s) cs → One (λ (x : List (Outcome ℕ) × List ℕ). Run s cs (x .0) (x .1))
+  -- Demand 3: answers are the plain count's, the words are the one sound sheet's, and factor lists agree exactly where the polynomials do.
+  pub demand3 : Demand3
+  -- K is the largest accepted w, or 1.
+  pub largest : (T most : ℕ) (cs : List Call) → countTerms T most 1 cs ≡ largestAccepted 1 (countAnswers T most 1 cs)
+  -- `replay` has exactly one outcome on every input.
+  pub replay-one : (lent goals start old : List ℕ) → One (λ (x : Outcome ℕ × List ℕ × List ℕ). Replayed lent goals start old (x .0) (x .1) (x .2))
+  -- A job comes to exactly one text, and listing it has one outcome only.
+  pub listing-one : (job : List ℕ) → One (IsListing job)
+  pub listed-only : (job old : List ℕ) (a a′ : Outcome ℕ) (new new′ : List ℕ) → Listed job old a new → Listed job old a′ new′ → (a ≡ a′) × (new ≡ new′)
+
+-- Numbers, series and row polynomials.
+pub record RowTheorems : Type 0 where
+  -- The inverse modulo a prime is one.
+  pub inverse-is : (p a : ℕ) → Prime p → 1 ≤ a → a < p → (a * inverseOf p a % p ≡ 1) × (inverseOf p a < p)
+  -- The quotient is the one series whose product with g is f, and the inverse the one whose product with g is 1.
+  pub quotient-one : (p N : ℕ) (f g : List ℕ) → judge (quotientChecks p N f g N) ≡ Pass → TheOne (λ h. IsSeries p N h × (product p N h g ≡ f)) (quotient p N f g)
+  pub inverse-one : (p N : ℕ) (g : List ℕ) → judge (inverseChecks p N g N) ≡ Pass → TheOne (λ h. IsSeries p N h × (product p N h g ≡ tabulate N unit)) (quotient p N (1 ∷ []) g)
+  -- A shift by c is undone by the shift by p − c.
+  pub shift-back : (p D N : ℕ) (f : List ℕ) (c : ℕ) → judge (shiftChecks p D N f c ((D + 1) * N)) ≡ Pass → rowShift p D N (rowShift p D N f c) ((p - c) % p) ≡ f
+  -- The shift of a product is the product of the shifts.
+  pub shift-product : (p D₁ D₂ N : ℕ) (f g : List ℕ) (c : ℕ) → 1 ≤ p
+      → rowShift p (D₁ + D₂) N (rowProduct p D₁ D₂ N f g) c ≡ rowProduct p D₁ D₂ N (rowShift p D₁ N f c) (rowShift p D₂ N g c)
+
+abbrev pub Theorems : Type 0
+Theorems = PairTheorems × SheetTheorems × CallTheorems × RowTheorems
