@@ -13,7 +13,7 @@ use Rattle.algebra.specs.Prime.{Prime}
 use Rattle.numbers.specs.Words.{choose, firstLarge, over, outside}
 use Rattle.numbers.specs.internal.Facts.{AllBelow}
 use Rattle.numbers.specs.Divisor.{leastDivisor}
-use Rattle.numbers.specs.Refusals.{Check, check, judge, refusal, Outcome, accepted, refused, result, written, modulusChecks, unreduced, rowsCheck, widthCheck, lengthsCheck, reducedCheck, roomCheck, inputChecks, operationChecks, Leaves}
+use Rattle.numbers.specs.Refusals.{Check, check, judge, refusal, Outcome, accepted, refused, result, written, modulusChecks, unreduced, rowsCheck, widthCheck, lengthsCheck, reducedCheck, roomCheck, shapeChecks, inputChecks, operationChecks, Leaves}
 use Rattle.numbers.specs.declared.refusal.Refusal.{Refusal}
 use Rattle.numbers.specs.declared.refusal.Verdict.{Verdict}
 use Rattle.numbers.specs.declared.refusal.Verdict.the-variants.{Pass, Refuse}
@@ -134,6 +134,11 @@ pub record Inputs (p N : ℕ) (f : List ℕ) (fRows : ℕ) (g : List ℕ) (gRows
 
 pub reduced : (p : ℕ) (s : List ℕ) → unreduced p s ≡ false → AllBelow p s
 reduced p s e = none-large p s (ltb-false (firstLarge p s) (length s) e)
+
+-- where 3 and 4 both apply, 3 is given
+degree-first : judge (shapeChecks 2 0 [] 34 [] 0 0) ≡ Refuse (refusal 3 0)
+unfolding judge
+degree-first = refl
 
 pub inputs-pass : (p N : ℕ) (f : List ℕ) (fRows : ℕ) (g : List ℕ) (gRows rows : ℕ)
     → judge (inputChecks p N f fRows g gRows rows) ≡ Pass → Inputs p N f fRows g gRows rows
