@@ -16,6 +16,7 @@ use borrow.Author.Tests.{lt-ltb, le-ltb}
 use lib.Dec.{ltb}
 use lib.ListN.{length, take, drop, length-append, length-drop, take-append-drop, List·getD-append}
 use lib.Seq.{ext-getD, getD-take, getD-drop, length-take-le, getD-append-add}
+use Rattle.numbers.proofs.RefusalsLaws.{accepted-pass}
 use Rattle.numbers.specs.Words.{word, choose}
 use Rattle.numbers.specs.Refusals.{refusal, Outcome, accepted, refused, result, Leaves}
 use Rattle.numbers.specs.declared.refusal.Verdict.{Verdict}
@@ -162,11 +163,9 @@ module _ (g : Given) (T : ℕ) (start : List ℕ) where
       (ap₂ (λ (h : Outcome ℕ) (t : List (Outcome ℕ)). h ∷ t) (q .0) (z .0), z .1)
 
 pub opened-done : (g : Given) (old new : List ℕ) (T : ℕ) → Opened g old (accepted T) new → OpenDone g old new T
-opened-done g old new T x = go (openVerdict g (length old)) (x .answers) (x .leaves)
-  where
-    go : (v : Verdict) → accepted T ≡ result v (needed g) → Leaves v (OpenDone g old new (needed g)) old new → OpenDone g old new T
-    go Pass e d = let z : needed g ≡ T = cc in subst (OpenDone g old new) z d
-    go (Refuse r) e d = absurd (let z : _≡_ {A = ℕ} 0 1 = cc in let y : ⊥ = omega arith in y)
+opened-done g old new T x =
+    let (e, t) = accepted-pass (openVerdict g (length old)) (needed g) T (x .answers) in
+    subst (OpenDone g old new) (sym t) (subst (λ v. Leaves v (OpenDone g old new (needed g)) old new) e (x .leaves))
 
 between : (x : History) → (x .answers ≡ countAnswers (x .T) (x .given .N) 1 (x .calls)) × Between (x .given) (x .T) (x .start) (worked x) (x .last)
 between x =

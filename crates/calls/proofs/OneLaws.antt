@@ -21,7 +21,7 @@ use Rattle.numbers.specs.declared.refusal.Verdict.{Verdict}
 use Rattle.numbers.specs.declared.refusal.Verdict.the-variants.{Pass, Refuse}
 use Rattle.numbers.specs.One.{One}
 use Rattle.numbers.proofs.OneLaws.{one-same}
-use Rattle.numbers.proofs.RefusalsLaws.{inside}
+use Rattle.numbers.proofs.RefusalsLaws.{inside, unlike}
 use Rattle.sheet.specs.Sheet.{given-reach}
 use Rattle.extend.specs.Extend.{Extended}
 use Rattle.extend.proofs.ExtendTotalLaws.{extended-one}
@@ -69,14 +69,11 @@ pub accepted-range : (T most K : ℕ) (c : Call) (w : ℕ) → countAnswer T mos
 unfolding countAnswer
 accepted-range T most K c w e = go (ltb (c .lent) T) (outside 1 most (c .goal)) (ltb (c .goal) K) refl refl e
   where
-    other : {A : Type 0} (n d : ℕ) → refused n d ≡ accepted w → A
-    other n d e = absurd (let z : _≡_ {A = ℕ} 0 1 = cc in let f : ⊥ = omega arith in f)
-
     go : (x y z : Bool) → outside 1 most (c .goal) ≡ y → ltb (c .goal) K ≡ z
         → choose x (refused 13 0) (choose y (refused 14 0) (choose z (refused 15 0) (accepted (c .goal)))) ≡ accepted w → (1 ≤ w) × (w ≤ most) × (K ≤ w)
-    go true y z q q′ e = other 13 0 e
-    go false true z q q′ e = other 14 0 e
-    go false false true q q′ e = other 15 0 e
+    go true y z q q′ e = unlike w 13 0 e
+    go false true z q q′ e = unlike w 14 0 e
+    go false false true q q′ e = unlike w 15 0 e
     go false false false q q′ e =
         let same : c .goal ≡ w = cc in
         let (low, high) = inside 1 most (c .goal) q in

@@ -28,7 +28,7 @@ use Rattle.numbers.specs.declared.refusal.Verdict.{Verdict}
 use Rattle.numbers.specs.declared.refusal.Verdict.the-variants.{Pass, Refuse}
 use Rattle.numbers.specs.One.{One}
 use Rattle.numbers.proofs.OneLaws.{one-same}
-use Rattle.numbers.proofs.RefusalsLaws.{after-pass, after-refuse, pass-parts, take-check, skip-check, none-judged, pass-check, neither, inside, answer-refused}
+use Rattle.numbers.proofs.RefusalsLaws.{after-pass, after-refuse, pass-parts, take-check, skip-check, none-judged, pass-check, neither, inside, answer-refused, unlike, accepted-pass}
 use Rattle.numbers.proofs.WordsLaws.{tabulate-ext, length-tabulate}
 use Rattle.layout.specs.Layout.{modulus, degree, width, terms, count, root, power, factor, rootsFrom, factorsFrom, end}
 use Rattle.sheet.specs.Sheet.{Given, Holds, givenOf, Sound}
@@ -258,9 +258,6 @@ extend-passes g s w h low high =
     simp (sound-test s .1 (h .sound), le-ltb w 1 low, le-ltb (width s) w (omega (arith, h .same-width)), le-ltb w (terms s) (omega (arith, h .same-terms)))
 
 -- after open: its refusal, or else extend to N
-unlike : {A : Type 0} (T n d : ℕ) → _≡_ {A = Outcome ℕ} (refused n d) (accepted T) → A
-unlike T n d e = absurd (let z : _≡_ {A = ℕ} 0 1 = cc in let y : ⊥ = omega arith in y)
-
 module _ (g : Given) (old mid : List ℕ) (a : Outcome ℕ) (room : length old ≡ sheetRoom) (o : Opened g old a mid) where
   answered : a ≡ result (openVerdict g sheetRoom) (needed g)
   answered = subst (λ (n : ℕ). a ≡ result (openVerdict g n) (needed g)) room (o .answers)
@@ -280,11 +277,7 @@ module _ (g : Given) (old mid : List ℕ) (a : Outcome ℕ) (room : length old �
       record { text = refusedText n d; is = refused-text n d is; puts = puts-as textRoom (refusedText n d) f refl (omega arith) }
 
   passed : (T : ℕ) → a ≡ accepted T → openVerdict g sheetRoom ≡ Pass
-  passed T is = go (openVerdict g sheetRoom) refl (sym is ∙ answered)
-    where
-      go : (v : Verdict) → openVerdict g sheetRoom ≡ v → _≡_ {A = Outcome ℕ} (accepted T) (result v (needed g)) → openVerdict g sheetRoom ≡ Pass
-      go Pass q e = q
-      go (Refuse r) q e = unlike T (r .number) (r .detail) (sym e)
+  passed T is = accepted-pass (openVerdict g sheetRoom) (needed g) T (sym is ∙ answered) .0
 
   holds-all : (T w : ℕ) (b : Outcome ℕ) (new : List ℕ) → a ≡ accepted T → w ≡ g .N → Extended mid w b new → Holds g (g .N) new
   holds-all T w b new is e x =

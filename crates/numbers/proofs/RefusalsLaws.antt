@@ -9,6 +9,7 @@ use native.Mathlib.Omega.{arith}
 use borrow.Author.Tests.{ltb-false, not-false, eqb-true, le-ltb}
 use lib.Dec.{ltb, eqb}
 use lib.ListN.{length}
+use mathlib.Core.Logic.{⊎-elim}
 use Rattle.algebra.specs.Prime.{Prime}
 use Rattle.numbers.specs.Words.{choose, firstLarge, over, outside}
 use Rattle.numbers.specs.internal.Facts.{AllBelow}
@@ -17,7 +18,7 @@ use Rattle.numbers.specs.Refusals.{Check, check, judge, refusal, Outcome
 use Rattle.numbers.specs.declared.refusal.Refusal.{Refusal}
 use Rattle.numbers.specs.declared.refusal.Verdict.{Verdict}
 use Rattle.numbers.specs.declared.refusal.Verdict.the-variants.{Pass, Refuse}
-use Rattle.numbers.proofs.WordsLaws.{none-large, below-append}
+use Rattle.numbers.proofs.WordsLaws.{none-large, below-append, large-there, lt-or-ge}
 use Rattle.numbers.proofs.DivisorLaws.{least-prime, prime-least}
 use Rattle.numbers.specs.Limits.{largestModulus, mostRows, largestWidth}
 use Rattle.numbers.specs.internal.Limits.{modulusBound}
@@ -135,6 +136,11 @@ pub record Inputs (p N : ℕ) (f : List ℕ) (fRows : ℕ) (g : List ℕ) (gRows
 pub reduced : (p : ℕ) (s : List ℕ) → unreduced p s ≡ false → AllBelow p s
 reduced p s e = none-large p s (ltb-false (firstLarge p s) (length s) e)
 
+pub below-reduced : (p : ℕ) (s : List ℕ) → AllBelow p s → unreduced p s ≡ false
+below-reduced p s b = le-ltb (firstLarge p s) (length s) (⊎-elim
+    (λ (l : firstLarge p s < length s). absurd (let z : ⊥ = omega (arith, large-there p s l, b (firstLarge p s) l) in z))
+    (λ (l : length s ≤ firstLarge p s). l) (lt-or-ge (firstLarge p s) (length s)))
+
 -- where 3 and 4 both apply, 3 is given
 degree-first : judge (shapeChecks 2 0 [] 34 [] 0 0) ≡ Refuse (refusal 3 0)
 unfolding judge
@@ -178,6 +184,15 @@ operation-pass p N f fRows g gRows rows room e =
       inputs = inputs-pass p N f fRows g gRows rows (m .0);
       roomy = ltb-false room (rows * N) (pass-check (roomCheck room (rows * N)) [] (m .1) .0);
     }
+
+-- no refusal is an acceptance
+pub unlike : {A : Type 0} (T n d : ℕ) → _≡_ {A = Outcome ℕ} (refused n d) (accepted T) → A
+unlike T n d e = absurd (let z : _≡_ {A = ℕ} 0 1 = cc in let y : ⊥ = omega arith in y)
+
+-- a call that was accepted has passed its checks, and answers what it is to answer
+pub accepted-pass : (v : Verdict) (x T : ℕ) → _≡_ {A = Outcome ℕ} (accepted T) (result v x) → (v ≡ Pass) × (T ≡ x)
+accepted-pass Pass x T e = (refl, let z : T ≡ x = cc in z)
+accepted-pass (Refuse r) x T e = unlike T (r .number) (r .detail) (sym e)
 
 -- after a refusal the answer is that refusal, and the words are as they were
 pub answer-refused : {v : Verdict} (r : Refusal) (n : ℕ) (new old : List ℕ) → v ≡ Refuse r

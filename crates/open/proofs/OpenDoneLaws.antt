@@ -13,7 +13,7 @@ use Rattle.numbers.specs.Words.{over}
 use Rattle.numbers.specs.Refusals.{judge, Outcome, accepted, refused, result, Leaves}
 use Rattle.numbers.specs.declared.refusal.Verdict.{Verdict}
 use Rattle.numbers.specs.declared.refusal.Verdict.the-variants.{Pass, Refuse}
-use Rattle.numbers.proofs.RefusalsLaws.{pass-parts}
+use Rattle.numbers.proofs.RefusalsLaws.{pass-parts, unlike, accepted-pass}
 use Rattle.numbers.specs.Limits.{largestDegree}
 use Rattle.sheet.specs.Sheet.{Given}
 use Rattle.sheet.specs.internal.Content.{size}
@@ -25,9 +25,6 @@ use Rattle.open.proofs.OpenLaws.{found-count}
 use Rattle.open.proofs.OpeningLaws.{open-ready, openWords, open-done}
 use Rattle.open.proofs.SheetWritingLaws.{open-fresh, ready-fresh, needed-fresh}
 
-unlike : {A : Type 0} (T n d : ℕ) → _≡_ {A = Outcome ℕ} (refused n d) (accepted T) → A
-unlike T n d e = absurd (let z : _≡_ {A = ℕ} 0 1 = cc in let y : ⊥ = omega arith in y)
-
 pub open-refused : (g : Given) (old found : List ℕ) (a : Outcome ℕ) (n d : ℕ) → a ≡ refused n d → CheckedOpen g (length old) a found → Opened g old a old
 open-refused g old found a n d q h = record { answers = h .answers; leaves = go (openVerdict g (length old)) (sym q ∙ h .answers) }
   where
@@ -37,11 +34,7 @@ open-refused g old found a n d q h = record { answers = h .answers; leaves = go 
 
 module _ (g : Given) (old : List ℕ) (T : ℕ) (found : List ℕ) (a : Outcome ℕ) (is : a ≡ accepted T) (h : CheckedOpen g (length old) a found) where
   passes : (openVerdict g (length old) ≡ Pass) × (T ≡ needed g)
-  passes = go (openVerdict g (length old)) refl (sym is ∙ h .answers)
-    where
-      go : (v : Verdict) → openVerdict g (length old) ≡ v → _≡_ {A = Outcome ℕ} (accepted T) (result v (needed g)) → (openVerdict g (length old) ≡ Pass) × (T ≡ needed g)
-      go Pass q e = (q, let z : T ≡ needed g = cc in z)
-      go (Refuse r) q e = unlike T (r .number) (r .detail) (sym e)
+  passes = accepted-pass (openVerdict g (length old)) (needed g) T (sym is ∙ h .answers)
 
   before : judge (polynomialChecks g ++ listChecks g) ≡ Pass
   before = pass-parts (polynomialChecks g ++ listChecks g) (splitChecks g (length old)) (sym (open-rows-split g (length old)) ∙ passes .0) .0

@@ -1,24 +1,22 @@
 -- The end theorems, from the laws of the crates.
 -- Assumes nothing.
-use Prim.Native.Nat.{ℕ, zero, suc, _+_, _≤_, _<_}
+use Prim.Native.Nat.{ℕ, zero, suc, _+_, _<_}
 use native.Mathlib.Omega.{arith}
 use mathlib.Core.Path.{_≡_, refl, sym, _∙_, ap, subst}
-use mathlib.Core.Logic.{⊎-elim}
-use mathlib.Core.Bool.{Bool, true, false}
 use mathlib.Core.List.{List, [], _∷_}
 use lib.ListN.{length}
 use lib.Seq.{ext-getD, take-all}
-use borrow.Author.Tests.{le-ltb, eqb-false, leb-false}
+use borrow.Author.Tests.{eqb-false, leb-false}
+use Rattle.series.proofs.CheckLaws.{one-below}
 use Rattle.algebra.specs.Prime.{Prime}
 use Rattle.algebra.proofs.FpLaws.{p-pos}
-use Rattle.numbers.specs.Words.{word, tabulate, firstLarge}
+use Rattle.numbers.specs.Words.{word, tabulate}
 use Rattle.numbers.specs.internal.Facts.{AllBelow}
-use Rattle.numbers.specs.Refusals.{judge, Outcome, accepted, refused, result, unreduced, operationChecks, inputChecks, beyondCheck, Leaves}
+use Rattle.numbers.specs.Refusals.{judge, accepted, result, operationChecks, inputChecks, beyondCheck, Leaves}
 use Rattle.numbers.specs.One.{TheOne}
-use Rattle.numbers.specs.declared.refusal.Verdict.{Verdict}
-use Rattle.numbers.specs.declared.refusal.Verdict.the-variants.{Pass, Refuse}
-use Rattle.numbers.proofs.WordsLaws.{true-false, lt-or-ge, length-tabulate, word-tabulate, large-there}
-use Rattle.numbers.proofs.RefusalsLaws.{operation-pass, inputs-pass, pass-parts, pass-check, after-pass, skip-check, none-judged, reduced}
+use Rattle.numbers.specs.declared.refusal.Verdict.the-variants.{Pass}
+use Rattle.numbers.proofs.WordsLaws.{length-tabulate, word-tabulate}
+use Rattle.numbers.proofs.RefusalsLaws.{operation-pass, inputs-pass, pass-parts, pass-check, after-pass, skip-check, none-judged, reduced, accepted-pass, below-reduced}
 use Rattle.series.specs.Series.{seriesChecks, productColumn, product, quotient}
 use Rattle.series.proofs.SeriesLaws.{length-quotient, quotient-below}
 use Rattle.series.proofs.QuotientLaws.{inverse-law, quotient-product, quotient-unique}
@@ -38,15 +36,6 @@ use Rattle.calls.proofs.OneLaws.{run-one, count-largest, replayed-one}
 use Rattle.listing.proofs.ListingLaws.{one-listing, listed-only}
 use Rattle.theorems.specs.Theorems.{IsSeries, PairTheorems, SheetTheorems, CallTheorems, RowTheorems, Theorems}
 
--- a call that was accepted has passed its checks
-was-passed : (v : Verdict) (x d : ℕ) → accepted d ≡ result v x → v ≡ Pass
-was-passed Pass x d e = refl
-was-passed (Refuse r) x d e = true-false (ap is-accepted e)
-  where
-    is-accepted : Outcome ℕ → Bool
-    is-accepted (accepted n) = true
-    is-accepted (refused n k) = false
-
 -- the checks of continuing are those of starting, and two more
 continue-starts : (p D N : ℕ) (f : List ℕ) (h w : ℕ) (old : List ℕ) → judge (continueChecks p D N f h w old) ≡ Pass → judge (pairChecks p D N f w (length old)) ≡ Pass
 continue-starts p D N f h w old e =
@@ -57,7 +46,7 @@ continue-starts p D N f h w old e =
 
 continued-pair : (p D N : ℕ) (f : List ℕ) (h w : ℕ) (old : List ℕ) (d : ℕ) (new : List ℕ) → Continued p D N f h w old (accepted d) new → Paired p D N f w old (accepted d) new
 continued-pair p D N f h w old d new x =
-    let e = was-passed (judge (continueChecks p D N f h w old)) (order D N f) d (x .answers) in
+    let e = accepted-pass (judge (continueChecks p D N f h w old)) (order D N f) d (x .answers) .0 in
     let s = continue-starts p D N f h w old e in
     record {
       answers = x .answers ∙ ap (λ v. result v (order D N f)) (e ∙ sym s);
@@ -92,11 +81,6 @@ call-theorems = record {
   listing-one = one-listing;
   listed-only = listed-only;
 }
-
-below-reduced : (p : ℕ) (s : List ℕ) → AllBelow p s → unreduced p s ≡ false
-below-reduced p s b = le-ltb (firstLarge p s) (length s) (⊎-elim
-    (λ (l : firstLarge p s < length s). absurd (let z : ⊥ = omega (arith, large-there p s l, b (firstLarge p s) l) in z))
-    (λ (l : length s ≤ firstLarge p s). l) (lt-or-ge (firstLarge p s) (length s)))
 
 -- the quotient, where p is a prime, f and g are below p and g is not 0 at X = 0; f is given by its first N words
 module _ {p : ℕ} (prime : Prime p) (N : ℕ) (f g F : List ℕ) (f-below : AllBelow p f) (g-below : AllBelow p g) (unit : word g 0 ≡ 0 → ⊥)
@@ -133,10 +117,6 @@ row-theorems = record {
   shift-product = row-shift-product;
 }
   where
-    one-below : (p : ℕ) → 2 ≤ p → AllBelow p (1 ∷ [])
-    one-below p two zero l = omega arith
-    one-below p two (suc k) l = omega arith
-
     one-word : (t : ℕ) → unit t ≡ word (1 ∷ []) t
     one-word zero = refl
     one-word (suc t) = refl
