@@ -28,7 +28,7 @@ static uint32_t inverse_of(uint32_t p, uint32_t a) {
 }
 
 static uint64_t check_modulus(uint32_t p) {
-    if (p < 2 || p > 65535) return refuse(1, 0);
+    if (p < 2 || p > 16777215) return refuse(1, 0);
     uint32_t d = least_divisor(p);
     return d < p ? refuse(2, d) : 0;
 }
@@ -43,6 +43,12 @@ static uint64_t check_words(uint32_t p, const uint32_t *s, size_t count, size_t 
     for (size_t i = 0; i < count; i++)
         if (s[i] >= p) return refuse(6, (uint32_t)(before + i));
     return 0;
+}
+
+uint64_t base_sum(uint32_t p, uint32_t value, uint32_t other) {
+    uint64_t r = check_modulus(p);
+    if (r || (r = check_words(p, (uint32_t[]){value, other}, 2, 0))) return r;
+    return (value + other) % p;
 }
 
 /* --- series --- */
@@ -92,23 +98,23 @@ static uint64_t passes(const uint32_t *f, size_t f_rows, const uint32_t *g, size
     return sum;
 }
 
-/* --- one column of a split, (Y - c)^m * B + P * A = E. A product and a word fit 32 bits, since p is below 2^16. --- */
+/* --- one column of a split, (Y - c)^m * B + P * A = E. p is below 2^24, so a product needs 64 bits. --- */
 
 /* Horner's scheme: word 0 becomes the value at c, the others the quotient by Y - c. */
 static void horner(uint32_t p, uint32_t c, uint32_t *e, size_t size) {
-    for (size_t j = size - 1; j-- > 0;) e[j] = (e[j] + c * e[j + 1]) % p;
+    for (size_t j = size - 1; j-- > 0;) e[j] = (uint32_t)((e[j] + (uint64_t)c * e[j + 1]) % p);
 }
 
 /* E becomes P and, from word m on, B. `inverse` is 1 / A(c), and a the quotient of A by Y - c. */
 static void solve(uint32_t p, uint32_t c, uint32_t inverse, const uint32_t *a, size_t a_size, size_t m, uint32_t *e, size_t size) {
     for (size_t i = 0; i < m; i++) {
         horner(p, c, e + i, size - i);
-        uint32_t q = e[i] * inverse % p;
-        e[i] = q;
-        for (size_t j = 0; j < a_size; j++) e[i + 1 + j] = (e[i + 1 + j] + (p - q * a[j] % p)) % p;
+        uint64_t minus_q = (p - (uint64_t)e[i] * inverse % p) % p;
+        e[i] = (uint32_t)((p - minus_q) % p);
+        for (size_t j = 0; j < a_size; j++) e[i + 1 + j] = (uint32_t)((e[i + 1 + j] + minus_q * a[j]) % p);
     }
     for (size_t i = m; i-- > 0;)
-        for (size_t j = i; j + 1 < m; j++) e[j] = (e[j] + (p - c) * e[j + 1]) % p;
+        for (size_t j = i; j + 1 < m; j++) e[j] = (uint32_t)((e[j] + (uint64_t)(p - c) * e[j + 1]) % p);
 }
 
 /* Column t of f less the products of the columns between: what the columns t of P and A have to come to. */

@@ -1,5 +1,6 @@
 #!/usr/bin/env python3
-"""Writes the sample job files: 16-bit little-endian words p, D, N, r, 12, 12 + 2r, the roots, the rows."""
+"""Writes the sample job files: p, D, N, r, the byte offsets of roots and rows, the roots, the rows. Fields are 16-bit words, the low byte first, or 32-bit
+words after a first 16-bit word of 0 where the modulus needs more than two bytes."""
 import os
 import struct
 
@@ -29,9 +30,11 @@ def monic(p, n, root, power, seed):
 
 
 def write(name, p, n, roots, rows):
-    words = [p, len(rows) - 1, n, len(roots), 12, 12 + 2 * len(roots)] + roots + [w for row in rows for w in row]
+    first, size, code = (2, 4, "I") if p > 65535 else (0, 2, "H")
+    head = first + 6 * size
+    words = [p, len(rows) - 1, n, len(roots), head, head + size * len(roots)] + roots + [w for row in rows for w in row]
     with open(os.path.join(HERE, name), "wb") as f:
-        f.write(struct.pack("<%dH" % len(words), *words))
+        f.write(bytes(first) + struct.pack("<%d%s" % (len(words), code), *words))
 
 
 def product(p, n, factors):
@@ -45,9 +48,21 @@ def job(name, p, n, factors):
     write(name, p, n, [root for root, _ in factors], product(p, n, factors))
 
 
+def longest(p):
+    """The longest file, and the longest listing: twelve factors Y + s to 64 terms, every number of eight digits but that of each s at X = 0, which has seven."""
+    roots = [10000000 + 500000 * i for i in range(12)]
+    f = [[1] + [0] * 63]
+    for i, c in enumerate(roots):
+        s = [p - c] + [10000000 + 104729 * (i + 1) * t % 6000000 for t in range(1, 64)]
+        f = times(p, 64, f, [s, [1] + [0] * 63])
+    write("longest.job", p, 64, roots, f)
+
+
 write("square_root.job", 7, 3, [1, 6], [[6, 6, 0], [0, 0, 0], [1, 0, 0]])
 job("high_power.job", 101, 8, [(5, 7), (90, 1)])
 job("small_prime.job", 5, 10, [(0, 4), (1, 3), (3, 2)])
 job("two.job", 2, 16, [(0, 3), (1, 2)])
 job("two_at_once.job", 3, 64, [(0, 1), (1, 1), (2, 7)])
+job("wide.job", 65537, 6, [(3, 1), (65536, 2)])
+longest(16777213)
 write("unsplit.job", 7, 3, [1], [[6, 6, 0], [0, 0, 0], [1, 0, 0]])

@@ -127,7 +127,7 @@ fn small(random: &mut Random, report: &mut Report, i: u32) {
 
 /// The largest sheets, which part in the last column or before.
 fn large(random: &mut Random, report: &mut Report) {
-    for (p, count, t) in [(65521, 32, 255), (251, 3, 128), (2, 2, 1)] {
+    for (p, count, t) in [(16_777_213, 32, 255), (251, 3, 128), (2, 2, 1)] {
         let f = polynomials::with_roots(random, report, p, 32, 256, count);
         let g = parting(random, &f, t);
         compare(random, report, &f, &g);

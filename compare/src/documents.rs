@@ -1,4 +1,4 @@
-//! Document 01's examples, by the words that it prints, and the sheet that document 02's F-8 makes smaller.
+//! Document 01's examples, by the words that it prints, and what document 02 changes in them: the sheet that F-8 makes smaller, the moduli of F-2.
 
 use crate::random::Random;
 use crate::report::{engine, Outcome, Report};
@@ -64,8 +64,15 @@ fn moduli(report: &mut Report) {
     example(report, "p = 91", judged(91), Err((2, 7)));
     example(report, "p = 65,521", judged(65521), Ok(0));
     example(report, "p = 65,535", judged(65535), Err((2, 3)));
-    example(report, "p = 65,536", judged(65536), Err((1, 0)));
     example(report, "Y² − 1 with root 1 alone", engine(sheet::open(7, 2, 1, &[6, 0, 1], &[1], &mut [0; 64])), Err((9, 0)));
+}
+
+fn larger_moduli(report: &mut Report) {
+    for (p, expected) in [(65_536, Err((2, 2))), (65_537, Ok(0)), (16_777_213, Ok(0)), (16_777_215, Err((2, 3))), (16_777_216, Err((1, 0)))] {
+        let judged = engine(numbers::sum(p, 0, 0));
+        report.expect(judged == expected, &format!("document 02, F-2: the modulus {p} is judged {judged:?}, not {expected:?}"));
+        report.kind("the moduli of document 02's F-2");
+    }
 }
 
 /// Y^d with n columns, opened with the root 0.
@@ -89,6 +96,7 @@ pub fn run(_: &mut Random, report: &mut Report) {
     modulo_2(report);
     pairs(report);
     moduli(report);
+    larger_moduli(report);
     limits(report);
     three_roots(report);
 }

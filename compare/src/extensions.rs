@@ -79,7 +79,7 @@ fn small(random: &mut Random, report: &mut Report) {
 
 /// Columns around k, and the first and last, of the largest sheets.
 fn large(random: &mut Random, report: &mut Report) {
-    for (p, count, k) in [(65521, 32, 1), (65521, 8, 128), (251, 3, 255), (7, 7, 256), (2, 2, 100)] {
+    for (p, count, k) in [(65_521, 32, 1), (16_777_213, 8, 128), (251, 3, 255), (7, 7, 256), (2, 2, 100)] {
         let given = polynomials::with_roots(random, report, p, 32, 256, count);
         let fresh = opened(random, report, &given);
         let sheet = extend(report, &fresh, k).words;

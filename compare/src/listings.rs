@@ -1,60 +1,122 @@
-//! Job files: good ones, and ones with faults in every field.
+//! Job files of both kinds: good ones, and ones with faults in every field.
 
 use crate::polynomials::{self, Given};
 use crate::random::Random;
 use crate::report::{engine, second, Report, LINE};
+use second::polynomial::{constant, product_of_all, words};
 
-/// The file's words: p, D, N, r, two byte offsets, roots, rows.
-fn fields(given: &Given) -> Vec<u32> {
-    let r = given.roots.len() as u32;
-    let mut all = vec![given.p, given.d, given.n, r, 12, 12 + 2 * r];
-    all.extend(&given.roots);
-    all.extend(&given.f);
-    all
+/// How a file writes its fields: in 16 bits, or, after a first word of 0, in 32.
+#[derive(Clone, Copy, PartialEq)]
+enum Kind {
+    Narrow,
+    Wide,
 }
 
-fn bytes(fields: &[u32]) -> Vec<u8> {
-    fields.iter().flat_map(|&field| (field as u16).to_le_bytes()).collect()
+impl Kind {
+    /// The bytes of the head.
+    fn head(self) -> u32 {
+        if self == Kind::Wide { 26 } else { 12 }
+    }
+
+    /// The bytes of a field.
+    fn size(self) -> u32 {
+        if self == Kind::Wide { 4 } else { 2 }
+    }
+
+    fn bytes(self, fields: &[u32]) -> Vec<u8> {
+        match self {
+            Kind::Narrow => fields.iter().flat_map(|&field| (field as u16).to_le_bytes()).collect(),
+            Kind::Wide => [0; 2].into_iter().chain(fields.iter().flat_map(|field| field.to_le_bytes())).collect(),
+        }
+    }
+
+    /// The file's fields: p, D, N, r, two byte offsets, roots, rows.
+    fn fields(self, given: &Given) -> Vec<u32> {
+        let r = given.roots.len() as u32;
+        let mut all = vec![given.p, given.d, given.n, r, self.head(), self.head() + self.size() * r];
+        all.extend(&given.roots);
+        all.extend(&given.f);
+        all
+    }
 }
 
-fn spoil_field(random: &mut Random, fields: &mut [u32]) {
+fn spoil_field(random: &mut Random, report: &mut Report, kind: Kind, fields: &mut [u32]) {
     let p = fields[0];
     let coefficient = random.within(6, fields.len() as u32 - 1) as usize;
     let at = random.pick(&[0, 1, 2, 3, 4, 5, coefficient]);
+    if kind == Kind::Wide && random.once_in(6) {
+        report.kind("job: wide, a field 65,536 too large");
+        fields[at] = fields[at].wrapping_add(1 << 16);
+        return;
+    }
     fields[at] = match at {
         0 => random.bad_modulus(),
-        1 => random.pick(&[0, 12, 13, 65535]),
-        2 => random.pick(&[0, 64, 65, 65535]),
-        3 => random.pick(&[0, 1, 12, 13, 65535]),
-        4 | 5 => random.below(40),
+        1 => random.pick(&[0, 12, 13, 65535, 1 << 30, u32::MAX]),
+        2 => random.pick(&[0, 64, 65, 65535, 1 << 30, u32::MAX]),
+        3 => random.pick(&[0, 1, 12, 13, 65535, 1 << 30, u32::MAX]),
+        // counted from the head's end, from the end of the first word, the other kind's, or any
+        4 | 5 => random.pick(&[fields[at] - kind.head(), fields[at] - 2, 12, 26, 12 + 2 * fields[3].min(12), 26 + 4 * fields[3].min(12), u32::MAX]),
         _ => random.edge_word(p),
     };
 }
 
 fn spoil_length(random: &mut Random, file: &mut Vec<u8>) {
-    match random.below(4) {
+    match random.below(5) {
         0 => file.push(0),
         1 => file.truncate(file.len() - 1),
         2 => file.truncate(random.below(14) as usize),
-        _ => file.extend([0; 2000]),
+        3 => file.truncate(random.below(28) as usize),
+        _ => file.extend([0; 4000]),
+    }
+}
+
+/// The first word is what tells the kinds apart.
+fn spoil_first_word(random: &mut Random, report: &mut Report, kind: Kind, file: &mut Vec<u8>) {
+    report.kind("job: a first word of 0 put in, or overwritten");
+    match kind {
+        Kind::Wide if random.once_in(2) => drop(file.drain(..2)),
+        Kind::Wide => file[random.below(2) as usize] = random.within(1, 255) as u8,
+        Kind::Narrow if random.once_in(2) => file[..2].fill(0),
+        Kind::Narrow => drop(file.splice(..0, [0, 0])),
     }
 }
 
 fn job(random: &mut Random, report: &mut Report) -> Vec<u8> {
     let (p, d, n) = (random.prime(), random.degree().clamp(1, 13), random.columns().min(65));
-    let mut fields = fields(&polynomials::any(random, report, p, d, n));
-    let faults = random.pick(&[0, 0, 0, 1, 1, 2, 3]);
-    (0..faults).for_each(|_| spoil_field(random, &mut fields));
+    let kind = if p > 65535 || random.once_in(2) { Kind::Wide } else { Kind::Narrow };
+    let mut fields = kind.fields(&polynomials::any(random, report, p, d, n));
+    let mut faults = random.pick(&[0, 0, 0, 1, 1, 2, 3]);
+    while faults > 0 && fields[4] >= kind.head() && fields[5] >= kind.head() {
+        spoil_field(random, report, kind, &mut fields);
+        faults -= 1;
+    }
     if random.once_in(8) {
         // a root or the polynomial at X = 0 that does not fit the rest
         let at = random.within(6, 8.min(fields.len() as u32 - 1)) as usize;
         fields[at] = random.below(p);
     }
-    let mut file = bytes(&fields);
+    let mut file = kind.bytes(&fields);
+    if random.once_in(12) {
+        spoil_first_word(random, report, kind, &mut file);
+    }
     if random.once_in(6) {
         spoil_length(random, &mut file);
     }
     file
+}
+
+/// What the listing says of the file's kind.
+fn note_kind(report: &mut Report, job: &[u8], text: &str) {
+    let wide = job.starts_with(&[0, 0]);
+    match text.strip_prefix("mod ") {
+        Some(rest) if wide => {
+            let p: u32 = rest.split(' ').next().and_then(|p| p.parse().ok()).expect("the modulus follows");
+            report.kind(if p > 65535 { "job: wide, listed, p above 65,535" } else { "job: wide, listed" });
+        }
+        Some(_) => report.kind("job: of 16-bit fields, listed"),
+        None if wide && (12..26).contains(&job.len()) => report.kind("job: wide, under 26 bytes"),
+        None => {}
+    }
 }
 
 fn compare(random: &mut Random, report: &mut Report, job: &[u8]) {
@@ -62,10 +124,78 @@ fn compare(random: &mut Random, report: &mut Report, job: &[u8]) {
     let refusal = text.strip_prefix("refused ").and_then(|rest| rest.split(' ').next());
     let number = refusal.map_or(0, |number| number.parse().expect("a number follows"));
     report.outcome(LINE, number);
+    note_kind(report, job, &text);
     let room = random.room(text.len());
     let out: Vec<u8> = random.junk(room).iter().map(|&word| word as u8).collect();
     let input = || format!("job {job:?}");
     report.call("list", input, &[job], &out, |o| engine(bopkheul::listing::list(job, o)), |o| second(second::listing::list(job, o)));
+}
+
+/// Y² − 1 − X modulo p, three terms.
+fn square_root(p: u32) -> Given {
+    Given { p, d: 2, n: 3, f: vec![p - 1, p - 1, 0, 0, 0, 0, 1, 0, 0], roots: vec![1, p - 1] }
+}
+
+/// What can be wrong with the fields of that job, in the order of refusals. (The length is the last of those that give 5.)
+const FAULTS: [fn(&mut Vec<u32>); 12] = [
+    |fields| fields[0] = 1,
+    |fields| fields[0] = 65_535,
+    |fields| fields[1] = u32::MAX,
+    |fields| fields[2] = u32::MAX,
+    |fields| fields[3] = u32::MAX,
+    |fields| fields[4] -= 2,
+    |fields| fields[5] -= 2,
+    |fields| fields.push(0),
+    |fields| fields[11] = fields[0],
+    |fields| fields[15] = 1,
+    |fields| fields[7] = 1,
+    |fields| fields[6] = 0,
+];
+
+fn every_set_of_faults(random: &mut Random, report: &mut Report, kind: Kind, given: &Given) {
+    for set in 0..1 << FAULTS.len() {
+        let mut fields = kind.fields(given);
+        for (i, fault) in FAULTS.iter().enumerate() {
+            if set >> i & 1 == 1 {
+                fault(&mut fields);
+            }
+        }
+        report.kind("job: every set of refusals at once");
+        compare(random, report, &kind.bytes(&fields));
+    }
+}
+
+/// The file from its first 0 bytes to a few more than it has, with p right, composite and 0.
+fn every_length(random: &mut Random, report: &mut Report, kind: Kind, given: &Given) {
+    for p in [given.p, 65_535, 0] {
+        let mut fields = kind.fields(given);
+        fields[0] = p;
+        let file = [&kind.bytes(&fields)[..], &[0; 5]].concat();
+        for length in 0..=file.len() {
+            report.kind("job: every length of a file");
+            compare(random, report, &file[..length]);
+        }
+    }
+}
+
+/// Twelve factors Y + s, 64 columns, modulo the largest prime. A root and its s at X = 0 come to p, so only one of them has eight digits; all else has eight.
+fn longest(random: &mut Random, report: &mut Report) {
+    let (p, n) = (16_777_213u32, 64);
+    let roots: Vec<u32> = (0..12).map(|i| 10_000_000 + 500_000 * i + random.below(500_000)).collect();
+    let factor = |random: &mut Random, root: u32| {
+        let mut s: Vec<u64> = (0..n).map(|_| random.within(10_000_000, p - 1) as u64).collect();
+        s[0] = (p - root) as u64;
+        vec![s, constant(1, n)]
+    };
+    let factors: Vec<_> = roots.iter().map(|&root| factor(random, root)).collect();
+    let f = words(&product_of_all(p as u64, n, &factors));
+    let mut file = Kind::Wide.bytes(&Kind::Wide.fields(&Given { p, d: 12, n: n as u32, f, roots }));
+    let text = second::listing::text(&file);
+    report.expect(file.len() == 3402 && text.len() == 7267, &format!("the longest file has {} bytes, and its listing {}", file.len(), text.len()));
+    report.kind("job: the longest file and the longest listing, 3,402 and 7,267 bytes");
+    compare(random, report, &file);
+    file.push(0);
+    compare(random, report, &file);
 }
 
 pub fn run(random: &mut Random, report: &mut Report) {
@@ -73,4 +203,9 @@ pub fn run(random: &mut Random, report: &mut Report) {
         let file = job(random, report);
         compare(random, report, &file);
     }
+    for (kind, p) in [(Kind::Narrow, 65_521), (Kind::Wide, 65_521), (Kind::Wide, 16_777_213)] {
+        every_set_of_faults(random, report, kind, &square_root(p));
+        every_length(random, report, kind, &square_root(p));
+    }
+    longest(random, report);
 }

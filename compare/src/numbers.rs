@@ -4,6 +4,7 @@ use crate::random::Random;
 use crate::report::{engine, second, Report};
 use bopkheul::numbers as e;
 use second::numbers as s;
+use std::ops::RangeInclusive;
 
 fn all_four(report: &mut Report, p: u32, value: u32, other: u32) {
     let input = || format!("p {p} value {value} other {other}");
@@ -14,11 +15,15 @@ fn all_four(report: &mut Report, p: u32, value: u32, other: u32) {
 }
 
 pub fn run(random: &mut Random, report: &mut Report) {
-    for p in 0..=66_000 {
-        report.kind("every modulus from 0 to 66,000");
-        let (value, other) = (random.below(p + 1), random.below(p + 1));
-        all_four(report, p, value, other);
-    }
+    let moduli = |random: &mut Random, report: &mut Report, range: RangeInclusive<u32>, kind: &'static str| {
+        for p in range {
+            report.kind(kind);
+            let (value, other) = (random.below(p + 1), random.below(p + 1));
+            all_four(report, p, value, other);
+        }
+    };
+    moduli(random, report, 0..=66_000, "every modulus from 0 to 66,000");
+    moduli(random, report, 16_776_000..=16_778_000, "every modulus from 16,776,000 to 16,778,000");
     for p in 0..=24 {
         for value in 0..=p + 1 {
             (0..=p + 1).for_each(|other| all_four(report, p, value, other));

@@ -2,8 +2,8 @@
 
 pub struct Random(u64);
 
-/// The largest prime allowed.
-const LARGEST: u32 = 65_521;
+/// The largest prime below 2^16, the least above it, and the largest allowed.
+const LARGE: [u32; 3] = [65_521, 65_537, 16_777_213];
 
 fn is_prime(p: u32) -> bool {
     p >= 2 && (2..p).take_while(|d| d * d <= p).all(|d| !p.is_multiple_of(d))
@@ -39,13 +39,13 @@ impl Random {
         from[self.below(from.len() as u32) as usize]
     }
 
-    /// A prime: often one of the least, so that powers pass p; now and then the largest; otherwise any, of each length in bits as often.
+    /// A prime: often one of the least, so that powers pass p; now and then one at a limit; otherwise any, of each length in bits as often.
     pub fn prime(&mut self) -> u32 {
         match self.below(8) {
             0..=3 => self.pick(&[2, 3, 5, 7, 11, 13]),
-            4 => LARGEST,
+            4 => self.pick(&LARGE),
             _ => {
-                let bits = self.within(2, 16);
+                let bits = self.within(2, 24);
                 let from = self.within(1 << (bits - 1), (1 << bits) - 1);
                 (2..=from).rev().find(|&p| is_prime(p)).expect("2 is a prime")
             }
@@ -99,7 +99,13 @@ impl Random {
 
     /// A modulus that row 1 or row 2 refuses.
     pub fn bad_modulus(&mut self) -> u32 {
-        self.pick(&[0, 1, 65536, 65537, u32::MAX, 4, 9, 91, 255, 65533, 65535, 64009])
+        let out_of_range = [0, 1, 1 << 24, (1 << 24) + 1, (1 << 24) + 43, u32::MAX]; // 2^24 + 43 is a prime
+        let composite = [4, 9, 91, 255, 65_533, 65_535, 65_536, 64_009, 4093 * 4093, 4091 * 4093, 16_777_214, 16_777_215];
+        if self.once_in(3) {
+            self.pick(&out_of_range)
+        } else {
+            self.pick(&composite)
+        }
     }
 
     /// A word that is p or more, or, for the least of them, just below.

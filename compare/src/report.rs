@@ -69,10 +69,12 @@ pub const OPERATIONS: [Operation; 24] = [
 ];
 
 /// Kinds of inputs: each must have come up.
-pub const KINDS: [&str; 56] = [
+pub const KINDS: [&str; 67] = [
     "document 01's examples",
     "the sheet of document 02's F-8",
+    "the moduli of document 02's F-2",
     "every modulus from 0 to 66,000",
+    "every modulus from 16,776,000 to 16,778,000",
     "a power of p or more",
     "32 rows or 256 columns",
     "several faults at once",
@@ -118,6 +120,15 @@ pub const KINDS: [&str; 56] = [
     "extend: a factor wrong from k up, w = k",
     "extend: a factor wrong from k up, w > k",
     "extend: a factor wrong in column k − 1, w is refused too",
+    "job: of 16-bit fields, listed",
+    "job: wide, listed",
+    "job: wide, listed, p above 65,535",
+    "job: wide, under 26 bytes",
+    "job: wide, a field 65,536 too large",
+    "job: a first word of 0 put in, or overwritten",
+    "job: every set of refusals at once",
+    "job: every length of a file",
+    "job: the longest file and the longest listing, 3,402 and 7,267 bytes",
     "old layout: a stored sheet of one or two roots",
     "old layout: a stored sheet of three roots or more",
     "old layout: a fresh sheet of one or two roots",

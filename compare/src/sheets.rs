@@ -336,7 +336,7 @@ fn life_of_a_sheet(random: &mut Random, report: &mut Report, given: &Given, chan
 
 /// The largest sheets: simple roots as many as there can be, and few roots of high powers.
 fn large(random: &mut Random, report: &mut Report) {
-    for (p, count) in [(65521, 32), (65521, 2), (251, 32), (251, 7), (13, 13), (7, 3), (3, 3), (2, 2), (2, 1)] {
+    for (p, count) in [(16_777_213, 32), (16_777_213, 2), (65_521, 32), (251, 32), (251, 7), (13, 13), (7, 3), (3, 3), (2, 2), (2, 1)] {
         let given = polynomials::with_roots(random, report, p, 32, 256, count);
         life_of_a_sheet(random, report, &given, 8);
         let at_once = opened(random, report, &given);

@@ -7,7 +7,7 @@ def least(p):
         d+=1
     return p
 def mod(p):
-    if p<2 or p>65535: return (1,0)
+    if p<2 or p>16777215: return (1,0)
     if least(p)<p: return (2,least(p))
 def operands(p,xs):
     r=mod(p)
@@ -15,7 +15,7 @@ def operands(p,xs):
     for i,x in enumerate(xs):
         if x>=p: return (6,i)
 def show(r,v,p): return f"refused {r[0]} {r[1]}" if r else f"{v} mod {p}"
-for p,a,b in [(7,3,5),(65521,65520,65520),(7,7,5),(7,6,7),(7,8,9),(7,0,0),(91,0,200),(1,0,0),(65536,70000,0),(4294967295,)*3,(2,1,1)]:
+for p,a,b in [(7,3,5),(65521,65520,65520),(16777213,16777212,16777212),(7,7,5),(7,6,7),(7,8,9),(7,0,0),(91,0,200),(1,0,0),(65536,70000,0),(16777215,0,0),(16777216,0,0),(4294967295,)*3,(2,1,1)]:
     r=operands(p,[a,b])
     print("sum",show(r,(a+b)%p,p)); print("difference",show(r,(a-b)%p,p)); print("product",show(r,a*b%p,p))
     r=operands(p,[a]) or ((12,0) if a==0 else None)

@@ -2,17 +2,19 @@
 
 use std::sync::OnceLock;
 
-const LIMIT: usize = 65536;
+pub const LARGEST_MODULUS: u32 = 16_777_215;
 
-/// The least divisor above 1 of every number below 65,536.
-fn sieve() -> &'static [u32] {
-    static LEAST: OnceLock<Vec<u32>> = OnceLock::new();
+/// The least divisor above 1 of every composite number up to the largest modulus, and 0 for all others. Those divisors are below 4,096.
+fn sieve() -> &'static [u16] {
+    static LEAST: OnceLock<Vec<u16>> = OnceLock::new();
     LEAST.get_or_init(|| {
-        let mut least = vec![0; LIMIT];
-        for q in 2..LIMIT {
-            for multiple in (q..LIMIT).step_by(q) {
-                if least[multiple] == 0 {
-                    least[multiple] = q as u32;
+        let mut least = vec![0; LARGEST_MODULUS as usize + 1];
+        for q in 2..4096usize {
+            if least[q] == 0 {
+                for multiple in (q * q..least.len()).step_by(q) {
+                    if least[multiple] == 0 {
+                        least[multiple] = q as u16;
+                    }
                 }
             }
         }
@@ -20,9 +22,12 @@ fn sieve() -> &'static [u32] {
     })
 }
 
-/// The least divisor above 1 of a number from 2 to 65,535: a prime's is the prime.
+/// The least divisor above 1 of a number from 2 to the largest modulus: a prime's is the prime.
 pub fn least_divisor(p: u32) -> u32 {
-    sieve()[p as usize]
+    match sieve()[p as usize] {
+        0 => p,
+        divisor => divisor as u32,
+    }
 }
 
 pub fn add(p: u64, a: u64, b: u64) -> u64 {

@@ -1,4 +1,4 @@
-//! Document 01 once more, with the sheet as document 02's F-8 has it: written from their text alone and by other methods than the engine's, so that a slip
+//! Document 01 once more, with document 02's F-8 (the sheet) and F-2 (moduli of three bytes, wide job files): written from their text alone and by other methods than the engine's, so that a slip
 //! of one is not a slip of both.
 //!
 //! | | engine | here |

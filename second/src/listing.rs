@@ -3,7 +3,7 @@
 use crate::refusal::{composite, judge, modulus_range, short, when, Answer, Refusal};
 use crate::sheet;
 
-/// A job file taken apart: the fields that it begins with, and its words from byte 12 on.
+/// A job file taken apart: the fields that it begins with, and all after them.
 struct Job {
     p: u32,
     d: u32,
@@ -12,23 +12,33 @@ struct Job {
     rest: Vec<u32>,
 }
 
-fn word(bytes: &[u8]) -> u32 {
-    u16::from_le_bytes([bytes[0], bytes[1]]) as u32
+/// The bytes of a field, the bytes before and with the six fields of the head, and the fields: of 32 bits after a first word of 0, and else of 16.
+fn taken_apart(bytes: &[u8]) -> (u64, u64, Vec<u32>) {
+    match bytes {
+        [0, 0, rest @ ..] => (4, 26, rest.chunks_exact(4).map(|b| u32::from_le_bytes([b[0], b[1], b[2], b[3]])).collect()),
+        _ => (2, 12, bytes.chunks_exact(2).map(|b| u16::from_le_bytes([b[0], b[1]]) as u32).collect()),
+    }
 }
 
 fn read(bytes: &[u8]) -> Result<Job, Refusal> {
-    judge(&[(5, &|| when(bytes.len() < 12))])?;
-    let field: Vec<u32> = bytes[..12].chunks(2).map(word).collect();
-    let [p, d, n, r, roots, rows] = field[..] else { unreachable!("six fields") };
-    let size = 12 + 2 * (r as u64 + (d as u64 + 1) * n as u64);
+    let (size, head, fields) = taken_apart(bytes);
+    let length = bytes.len() as u64;
+    judge(&[(5, &|| when(length < head))])?;
+    let [p, d, n, r, roots, rows, rest @ ..] = &fields[..] else { unreachable!("six fields") };
+    let (p, d, n, r) = (*p, *d, *n, *r);
+    // asked only where D and N are within their limits
+    let misplaced = || {
+        let after_roots = head + size * r as u64;
+        *roots as u64 != head || *rows as u64 != after_roots || length != after_roots + size * (d as u64 + 1) * n as u64
+    };
     judge(&[
         (1, &|| modulus_range(p)),
         (2, &|| composite(p)),
         (3, &|| when(!(1..=12).contains(&d))),
         (4, &|| when(!(1..=64).contains(&n))),
-        (5, &|| when(r > 12 || roots != 12 || rows != 12 + 2 * r || bytes.len() as u64 != size)),
+        (5, &|| when(r > 12 || misplaced())),
     ])?;
-    Ok(Job { p, d, n, r, rest: bytes[12..].chunks(2).map(word).collect() })
+    Ok(Job { p, d, n, r, rest: rest.to_vec() })
 }
 
 fn numbers(row: &[u32]) -> String {

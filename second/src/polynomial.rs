@@ -32,7 +32,7 @@ pub fn entrywise(op: fn(u64, u64, u64) -> u64, p: u64, g: &[u64], h: &[u64]) -> 
     g.iter().zip(h).map(|(&a, &b)| op(p, a, b)).collect()
 }
 
-/// g·h modulo X^N, by adding every product of two coefficients to the column where it belongs: at most 256 products below 2^32.
+/// g·h modulo X^N, by adding every product of two coefficients to the column where it belongs: at most 256 products below 2^48.
 pub fn series_product(p: u64, g: &[u64], h: &[u64]) -> Series {
     let mut out = vec![0; g.len()];
     for (i, &a) in g.iter().enumerate() {

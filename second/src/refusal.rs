@@ -1,6 +1,6 @@
 //! The table of refusals: an operation lists its rows in the order in which they are judged.
 
-use crate::field;
+use crate::field::{least_divisor, LARGEST_MODULUS};
 
 /// A row of document 01's table, by its number, and the detail word.
 #[derive(Clone, Copy, Debug, PartialEq, Eq)]
@@ -31,12 +31,12 @@ pub fn when(condition: bool) -> Option<usize> {
 
 /// Row 1.
 pub fn modulus_range(p: u32) -> Option<usize> {
-    when(!(2..=65535).contains(&p))
+    when(!(2..=LARGEST_MODULUS).contains(&p))
 }
 
 /// Row 2.
 pub fn composite(p: u32) -> Option<usize> {
-    let divisor = field::least_divisor(p);
+    let divisor = least_divisor(p);
     (divisor != p).then_some(divisor as usize)
 }
 

@@ -3,7 +3,7 @@
 //! Column t ≥ 1 of all factors is found at once from the columns before it: with a_l the factors at X = 0, the unknown columns δ_i (m_i
 //! numbers each, D together) satisfy Σ_i δ_i·Π_{l≠i} a_l = column t of f less what the earlier columns give.
 
-use crate::field::{least_divisor, sub};
+use crate::field::sub;
 use crate::linear::{apply, invert, Matrix};
 use crate::polynomial::{
     at_zero, column, constant, cut, line_power, lower_words, polynomial, product_column, product_of_all, series, set_column, shift, truncated, words,
@@ -84,8 +84,8 @@ impl Sheet {
     fn is_reduced(&self) -> bool {
         let p = self.p;
         let below = |g: &Polynomial| g.iter().flatten().all(|&c| c < p as u64);
-        (2..=65535).contains(&p)
-            && least_divisor(p) == p
+        modulus_range(p).is_none()
+            && composite(p).is_none()
             && self.roots.iter().all(|&(c, _)| c < p)
             && self.roots.windows(2).all(|pair| pair[0].0 < pair[1].0)
             && below(&self.f)

@@ -1,4 +1,4 @@
-//! The examples of document 01, and the sheet of F-8.
+//! The examples of document 01, the sheet of F-8, and F-2's moduli and job files.
 
 use second::{listing, numbers, pair, sheet, Refusal};
 
@@ -53,7 +53,36 @@ fn refusals() {
     assert_eq!(numbers::sum(91, 0, 0), refused(2, 7));
     assert_eq!(numbers::sum(65521, 65520, 2), Ok(1));
     assert_eq!(numbers::sum(65535, 0, 0), refused(2, 3));
-    assert_eq!(numbers::sum(65536, 0, 0), refused(1, 0));
+    assert_eq!(numbers::sum(65536, 0, 0), refused(2, 2));
+    assert_eq!(numbers::sum(16777213, 16777212, 2), Ok(1));
+    assert_eq!(numbers::sum(16777215, 0, 0), refused(2, 3));
+    assert_eq!(numbers::sum(16777216, 0, 0), refused(1, 0));
+    assert_eq!(numbers::sum(4093 * 4093, 0, 0), refused(2, 4093));
+}
+
+fn wide_job(fields: &[u32]) -> Vec<u8> {
+    [0; 2].into_iter().chain(fields.iter().flat_map(|f| f.to_le_bytes())).collect()
+}
+
+/// Y² − 1 − X modulo 16,777,213: its roots are ±(1 + X/2 − X²/8).
+#[test]
+fn a_wide_job() {
+    let fields = [16777213, 2, 3, 2, 26, 34, 1, 16777212, 16777212, 16777212, 0, 0, 0, 0, 1, 0, 0];
+    let expected = "mod 16777213 terms 3 degree 2 factors 2\nroot 1 power 1\nY^0: 16777212 8388606 6291455\nroot 16777212 power 1\nY^0: 1 8388607 10485758\n";
+    assert_eq!(listing::text(&wide_job(&fields)), expected);
+    let with = |at: usize, value: u32| {
+        let mut changed = fields;
+        changed[at] = value;
+        listing::text(&wide_job(&changed))
+    };
+    assert_eq!(with(0, 0), "refused 1 0\n");
+    assert_eq!(with(1, u32::MAX), "refused 3 0\n");
+    assert_eq!(with(2, u32::MAX), "refused 4 0\n");
+    assert_eq!(with(3, u32::MAX), "refused 5 0\n");
+    assert_eq!(with(4, 24), "refused 5 0\n");
+    assert_eq!(with(5, 32), "refused 5 0\n");
+    assert_eq!(listing::text(&wide_job(&fields)[..25]), "refused 5 0\n");
+    assert_eq!(listing::text(&[&wide_job(&fields)[..], &[0]].concat()), "refused 5 0\n");
 }
 
 #[test]

@@ -360,6 +360,7 @@ fn two_refusals() {
 fn main() {
     all_four(7, 3, 5);
     all_four(65521, 65520, 65520);
+    all_four(16777213, 16777212, 16777212);
     // an offender in each place, and two at once
     all_four(7, 7, 5);
     all_four(7, 6, 7);
@@ -369,6 +370,8 @@ fn main() {
     all_four(91, 0, 200);
     all_four(1, 0, 0);
     all_four(65536, 70000, 0);
+    all_four(16777215, 0, 0);
+    all_four(16777216, 0, 0);
     all_four(4294967295, 4294967295, 4294967295);
     all_four(2, 1, 1);
     series_examples();

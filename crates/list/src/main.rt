@@ -1,4 +1,5 @@
 // Reads a job file from standard input and prints its listing, or the line of its refusal.
+use job::limits::JOB_ROOM;
 use libc::STDIN_FILENO;
 use libc::STDOUT_FILENO;
 use listing::limits::TEXT_ROOM;
@@ -20,9 +21,9 @@ fn reply(job: &[u8], text: &mut [u8]) -> usize
     }
 }
 
-// The longest right file has 1,700 bytes, so that 4,096 show one byte more.
+// A file that goes on after what is read here comes to the same text (`listing-cut`): no right one is so long.
 fn main() {
-    let mut job = [0u8; 4096];
+    let mut job = [0u8; JOB_ROOM];
     let got = io::read_full(STDIN_FILENO, &mut job);
     let mut text = [0u8; TEXT_ROOM];
     let long = reply(&job[..got], &mut text);

@@ -8,27 +8,28 @@
 --   listed-fits, listed-never  an accepted listing is within its room; `textRoom` bytes are always enough
 --   listing-same               two sheets that hold it have one listing
 --   one-listing, listed-only   each job comes to exactly one text; so listing it has one outcome only
+--   listing-cut                the first bytes of a file that is too long come to its text
 -- Assumes nothing.
 use Prim.Native.Nat.{ℕ, zero, suc, _+_, _*_, _≤_, _<_}
 use native.Mathlib.Nat.{mul-le-mul, add-mul}
 use native.Mathlib.Omega.{arith}
 use mathlib.Core.Path.{_≡_, refl, sym, ap, ap₂, subst, _∙_}
-use mathlib.Core.Bool.{Bool, true, false, not, _||_}
-use mathlib.Core.List.{List, [], _∷_, _++_}
-use lib.Dec.{ltb, eqb}
+use mathlib.Core.Bool.{Bool, true, false}
+use mathlib.Core.List.{List, [], _++_}
+use lib.Dec.{ltb}
 use lib.ListN.{length, take, drop, length-append}
 use lib.Seq.{getD-take, length-take-le, take-at}
-use borrow.Author.Tests.{le-ltb, lt-ltb, ltb-false, eqb-true, not-false}
+use borrow.Author.Tests.{le-ltb, lt-ltb, ltb-false}
 use Rattle.algebra.specs.Sums.{sumTo}
 use Rattle.algebra.proofs.SumsLaws.{sumTo-ext}
-use Rattle.numbers.specs.Words.{word, tabulate, over, outside}
-use Rattle.numbers.specs.Refusals.{check, judge, refusal, Outcome, accepted, refused, result, written, modulusChecks, Leaves}
+use Rattle.numbers.specs.Words.{word, tabulate, over}
+use Rattle.numbers.specs.Refusals.{check, judge, refusal, Outcome, accepted, refused, result, written, Leaves}
 use Rattle.numbers.specs.declared.refusal.Refusal.{Refusal}
 use Rattle.numbers.specs.declared.refusal.Verdict.{Verdict}
 use Rattle.numbers.specs.declared.refusal.Verdict.the-variants.{Pass, Refuse}
 use Rattle.numbers.specs.One.{One}
 use Rattle.numbers.proofs.OneLaws.{one-same}
-use Rattle.numbers.proofs.RefusalsLaws.{after-pass, after-refuse, pass-parts, take-check, skip-check, none-judged, pass-check, neither, inside, answer-refused, unlike, accepted-pass}
+use Rattle.numbers.proofs.RefusalsLaws.{after-pass, after-refuse, pass-parts, take-check, skip-check, none-judged, answer-refused, unlike, accepted-pass}
 use Rattle.numbers.proofs.WordsLaws.{tabulate-ext, length-tabulate}
 use Rattle.layout.specs.Layout.{modulus, degree, width, terms, count, root, power, factor, rootsFrom, factorsFrom, end}
 use Rattle.sheet.specs.Sheet.{Given, Holds, givenOf, Sound}
@@ -41,13 +42,18 @@ use Rattle.extend.specs.Extend.{extendVerdict, ExtendDone, Extended}
 use Rattle.extend.proofs.ExtendingLaws.{extend-holds}
 use Rattle.open.specs.Open.{needed, openChecks, openVerdict, OpenDone, Opened}
 use Rattle.open.proofs.OpeningLaws.{open-ready, sheet-exists}
-use Rattle.text.specs.Limits.{mostDegree, mostWidth, headSize, textRoom}
+use Rattle.job.specs.Limits.{mostDegree, mostWidth, headFields}
+use Rattle.job.specs.Job.{place, field, fields, jobModulus, jobDegree, jobWidth, jobCount, jobChecks}
+use Rattle.job.specs.declared.Form.{Form}
+use Rattle.job.specs.internal.Form.{FormIs, mostFields, longestJob}
+use Rattle.job.proofs.JobLaws.{place-mono, job-pass}
+use Rattle.job.proofs.LengthLaws.{too-long-not, cut-same}
+use Rattle.text.specs.Limits.{textRoom}
 use Rattle.text.specs.internal.Rooms.{sheetRoom, refusalRoom}
 use Rattle.text.specs.Text.{joinTo, rowLine, rowLines, rootLine, headLine, factorText, listingText, refusedText}
 use Rattle.text.specs.internal.Putting.{Listable, Puts}
 use Rattle.text.proofs.TextLaws.{puts-as}
-use Rattle.listing.specs.Job.{half, jobModulus, jobDegree, jobWidth, jobCount, halves, misplaced, placeChecks, sizeChecks, jobChecks, jobGiven, listVerdict}
-use Rattle.listing.specs.Listing.{TextOf, IsListing, roomVerdict, Listed}
+use Rattle.listing.specs.Listing.{jobGiven, listVerdict, TextOf, IsListing, roomVerdict, Listed}
 use Rattle.listing.specs.internal.Writing.{Wrote, WroteGiven}
 
 -- every sound sheet within a job's limits has its room
@@ -191,6 +197,16 @@ listed-only job old a a′ new new′ x x′ =
       x .leaves ∙ ap (λ (t : List ℕ). written (roomVerdict t old) (over t old) old) e ∙ sym (x′ .leaves),
     )
 
+-- the first bytes of a file that is too long come to its text
+pub listing-cut : (job text : List ℕ) (n : ℕ) → longestJob < n → n ≤ length job → IsListing (take n job) text → IsListing job text
+listing-cut job text n h l x = go (judge (jobChecks job)) refl
+  where
+    go : (v : Verdict) → judge (jobChecks job) ≡ v → IsListing job text
+    go Pass e = too-long-not job (omega arith) e
+    go (Refuse r) e =
+        let is : text ≡ refusedText (r .number) (r .detail) = x .refused r (list-refused (take n job) r (cut-same job n h l ∙ e)) in
+        subst (λ (t : List ℕ). IsListing job t) (sym is) (text-refused (listVerdict job) (jobGiven job) r (list-refused job r e))
+
 -- handing a text over: no room, and room
 pub no-room : (text old : List ℕ) → length old < length text → roomVerdict text old ≡ Refuse (refusal 10 (length text))
 no-room text old h = take-check (check 10 (ltb (length old) (length text)) (length text)) [] (lt-ltb (length old) (length text) h)
@@ -209,46 +225,12 @@ pub handed-all : (text old : List ℕ) {n a : ℕ} {new : List ℕ} → length t
     → (_≡_ {A = Outcome ℕ} (accepted (length text)) (result (roomVerdict text old) (length text))) × (new ≡ written (roomVerdict text old) (over text old) old)
 handed-all text old h f = rw (has-room text old h) (refl, put-over f)
 
--- the bytes that a job with its D, N and r has
-abbrev jobLong : List ℕ → ℕ
-jobLong b = headSize + 2 * jobCount b + 2 * ((jobDegree b + 1) * jobWidth b)
-
--- what is known of a job whose own checks pass
-pub record JobPass (b : List ℕ) : Type 0 where
-  pub degree-low : 1 ≤ jobDegree b
-  pub degree-high : jobDegree b ≤ mostDegree
-  pub width-low : 1 ≤ jobWidth b
-  pub width-high : jobWidth b ≤ mostWidth
-  pub count-high : jobCount b ≤ mostDegree
-  pub long : length b ≡ jobLong b
-
-pub job-pass : (b : List ℕ) → judge (jobChecks b) ≡ Pass → JobPass b
-job-pass b e =
-    let c₀ = pass-check (check 5 (ltb (length b) headSize) 0) (modulusChecks (jobModulus b) ++ sizeChecks b) e in
-    let m = pass-parts (modulusChecks (jobModulus b)) (sizeChecks b) (c₀ .1) in
-    let c₃ = pass-check (check 3 (outside 1 mostDegree (jobDegree b)) 0) (check 4 (outside 1 mostWidth (jobWidth b)) 0 ∷ placeChecks b (jobDegree b) (jobWidth b)) (m .1) in
-    let c₄ = pass-check (check 4 (outside 1 mostWidth (jobWidth b)) 0) (placeChecks b (jobDegree b) (jobWidth b)) (c₃ .1) in
-    let c₅ = pass-check (check 5 (ltb mostDegree (jobCount b) || misplaced b (jobDegree b) (jobWidth b)) 0) [] (c₄ .1) in
-    let d = inside 1 mostDegree (jobDegree b) (c₃ .0) in
-    let n = inside 1 mostWidth (jobWidth b) (c₄ .0) in
-    let r = neither (ltb mostDegree (jobCount b)) (misplaced b (jobDegree b) (jobWidth b)) (c₅ .0) in
-    let o = neither (not (eqb (half b 4) headSize)) (not (eqb (half b 5) (headSize + 2 * jobCount b)) || not (eqb (length b) (jobLong b))) (r .1) in
-    let q = neither (not (eqb (half b 5) (headSize + 2 * jobCount b))) (not (eqb (length b) (jobLong b))) (o .1) in
-    record {
-      degree-low = d .0;
-      degree-high = d .1;
-      width-low = n .0;
-      width-high = n .1;
-      count-high = ltb-false mostDegree (jobCount b) (r .0);
-      long = eqb-true (length b) (jobLong b) (not-false (eqb (length b) (jobLong b)) (q .1));
-    }
-
 -- open's verdict on a job's words, in a sheet with room for every job, is the job's
 pub list-verdict : (b : List ℕ) (room : ℕ) → judge (jobChecks b) ≡ Pass → room ≡ sheetRoom → listVerdict b ≡ openVerdict (jobGiven b) room
 unfolding jobGiven
 list-verdict b room e q =
     let l = job-pass b e in
-    let n = list-room (jobGiven b) (l .degree-high) (l .width-high) (omega (arith, l .count-high, length-tabulate (jobCount b) (λ i. half b (6 + i)))) in
+    let n = list-room (jobGiven b) (l .degree-high) (l .width-high) (omega (arith, l .count-high, length-tabulate (jobCount b) (λ i. field b (headFields + i)))) in
     list-opens b e ∙ sym (open-room (jobGiven b) room (omega arith))
 
 -- what open leaves can be extended to any number of terms from 1 to N
@@ -298,32 +280,35 @@ module _ (g : Given) (old mid : List ℕ) (a : Outcome ℕ) (room : length old �
       record { text = listingText new; is = text-listed (openVerdict g sheetRoom) g new (passed T is) (holds-all T w b new is e x); puts = f }
 
 -- the words of a job, where they were loaded into the first m words of an array
-pub loaded-first : (b : List ℕ) (from o m k : ℕ) (zeros new : List ℕ) → m ≤ length zeros → from ≡ o → m ≡ k → new ≡ halves b from (length (take m zeros))
-    → take m (new ++ drop m zeros) ≡ halves b o k
+pub loaded-first : (b : List ℕ) (from o m k : ℕ) (zeros new : List ℕ) → m ≤ length zeros → from ≡ o → m ≡ k → new ≡ fields b from (length (take m zeros))
+    → take m (new ++ drop m zeros) ≡ fields b o k
 loaded-first b from o m k zeros new h e f is =
     let n : length (take m zeros) ≡ m = length-take-le m zeros h in
-    let w : new ≡ halves b o k = is ∙ ap₂ (λ (x y : ℕ). halves b x y) e (n ∙ f) in
-    let l : length new ≡ m = ap length w ∙ length-tabulate k (λ i. half b (o + i)) ∙ sym f in
+    let w : new ≡ fields b o k = is ∙ ap₂ (λ (x y : ℕ). fields b x y) e (n ∙ f) in
+    let l : length new ≡ m = ap length w ∙ length-tabulate k (λ i. field b (o + i)) ∙ sym f in
     take-at new (drop m zeros) m l ∙ w
 
-pub loaded-long : (b : List ℕ) (from m : ℕ) (zeros new : List ℕ) → m ≤ length zeros → new ≡ halves b from (length (take m zeros)) → m ≤ length (new ++ drop m zeros)
+pub loaded-long : (b : List ℕ) (from m : ℕ) (zeros new : List ℕ) → m ≤ length zeros → new ≡ fields b from (length (take m zeros)) → m ≤ length (new ++ drop m zeros)
 loaded-long b from m zeros new h is =
     let n = length-take-le m zeros h in
-    let l = ap length is ∙ length-tabulate (length (take m zeros)) (λ i. half b (from + i)) in
+    let l = ap length is ∙ length-tabulate (length (take m zeros)) (λ i. field b (from + i)) in
     omega (arith, length-append new (drop m zeros))
 
-pub load-fits : (from r long : ℕ) (zeros : List ℕ) → r ≤ length zeros → 2 * (from + r) ≤ long → 2 * (from + length (take r zeros)) ≤ long
-load-fits from r long zeros h e = omega (arith, length-take-le r zeros h)
+pub load-fits : (b : List ℕ) (f : Form) (from m end : ℕ) (zeros : List ℕ) → FormIs b f → m ≤ length zeros → from + m ≤ end → end ≤ mostFields → place b end ≤ length b
+    → FormIs b f × (from + length (take m zeros) ≤ mostFields) × (place b (from + length (take m zeros)) ≤ length b)
+load-fits b f from m end zeros is h e few long =
+    let n = length-take-le m zeros h in
+    (is, omega arith, omega (arith, place-mono b (from + length (take m zeros)) end (omega arith)))
 
 -- what a job gives, word by word
 abbrev to : (p D N : ℕ) (rows roots : List ℕ) → Given
 to p D N rows roots = givenOf p D N rows roots
 
-given-same : (b : List ℕ) (g : Given) → g .p ≡ jobModulus b → g .D ≡ jobDegree b → g .N ≡ jobWidth b → g .rows ≡ halves b (6 + jobCount b) ((jobDegree b + 1) * jobWidth b)
-    → g .roots ≡ halves b 6 (jobCount b) → g ≡ jobGiven b
+given-same : (b : List ℕ) (g : Given) → g .p ≡ jobModulus b → g .D ≡ jobDegree b → g .N ≡ jobWidth b → g .rows ≡ fields b (headFields + jobCount b) ((jobDegree b + 1) * jobWidth b)
+    → g .roots ≡ fields b headFields (jobCount b) → g ≡ jobGiven b
 unfolding jobGiven
 given-same b g p d n rows roots =
-    let A = halves b (6 + jobCount b) ((jobDegree b + 1) * jobWidth b) in
+    let A = fields b (headFields + jobCount b) ((jobDegree b + 1) * jobWidth b) in
     let s₀ : g ≡ givenOf (jobModulus b) (g .D) (g .N) (g .rows) (g .roots) = ap (λ (x : ℕ). to x (g .D) (g .N) (g .rows) (g .roots)) p in
     let s₁ = ap (λ (x : ℕ). to (jobModulus b) x (g .N) (g .rows) (g .roots)) d in
     let s₂ = ap (λ (x : ℕ). to (jobModulus b) (jobDegree b) x (g .rows) (g .roots)) n in
@@ -333,7 +318,7 @@ given-same b g p d n rows roots =
 
 -- after a job's own checks, the text is that of open's verdict
 pub wrote-job : (b : List ℕ) (g : Given) {out new : List ℕ} {at : ℕ} → judge (jobChecks b) ≡ Pass → g .p ≡ jobModulus b → g .D ≡ jobDegree b → g .N ≡ jobWidth b
-    → g .rows ≡ halves b (6 + jobCount b) ((jobDegree b + 1) * jobWidth b) → g .roots ≡ halves b 6 (jobCount b) → WroteGiven g out at new
+    → g .rows ≡ fields b (headFields + jobCount b) ((jobDegree b + 1) * jobWidth b) → g .roots ≡ fields b headFields (jobCount b) → WroteGiven g out at new
     → Wrote (listVerdict b) (jobGiven b) out at new
 wrote-job b g {out} {new} {at} e p d n rows roots w =
     let s = subst (λ (x : Given). WroteGiven x out at new) (given-same b g p d n rows roots) w in

@@ -1,8 +1,9 @@
 // Job files in, listings out, on lent buffers.
-use crate::limits::ROOTS_ROOM;
-use crate::limits::ROWS_ROOM;
 use crate::limits::SHEET_ROOM;
 use crate::limits::TEXT_ROOM;
+use job::limits::HEAD_FIELDS;
+use job::limits::ROOTS_ROOM;
+use job::limits::ROWS_ROOM;
 use numbers::refusal::Answer;
 use numbers::refusal::Verdict;
 use numbers::refusal::refused;
@@ -13,13 +14,13 @@ ghost use Rattle.numbers.specs.Words.{over};
 ghost use Rattle.numbers.specs.Refusals.{judge, outcome, result, written};
 ghost use Rattle.numbers.specs.declared.refusal.Verdict.the-variants.{Pass};
 ghost use Rattle.sheet.specs.Sheet.{givenOf};
-ghost use Rattle.text.specs.Limits.{mostDegree, mostWidth, textRoom};
-ghost use Rattle.listing.specs.Job.{jobChecks, jobGiven, listVerdict};
+ghost use Rattle.job.specs.Limits.{mostDegree, mostWidth};
+ghost use Rattle.job.specs.Job.{jobChecks};
+ghost use Rattle.text.specs.Limits.{textRoom};
 ghost use Rattle.listing.specs.internal.Writing.{Wrote, WroteGiven};
-ghost use Rattle.listing.specs.Listing.{roomVerdict, Listed};
+ghost use Rattle.listing.specs.Listing.{jobGiven, listVerdict, roomVerdict, Listed};
 
-pub mod limits; // how large a job is, and its sheet and its text
-mod job; // reading a job file
+pub mod limits; // how large the sheet and the text of a job are
 
 // The text of what open is given.
 fn write_given(p: u32, d: u32, n: u32, rows: &[u32], roots: &[u32], out: &mut [u8]) -> usize
@@ -39,15 +40,16 @@ fn write_checked(job: &[u8], out: &mut [u8]) -> usize
     requires { ⌜ (judge (jobChecks (now job)) ≡ Pass) × (textRoom ≤ length (now out)) ⌝ }
     ensures { λ r. ⌜ Wrote (listVerdict (now (job .entry))) (jobGiven (now (job .entry))) (now (out .entry)) r (now (out .exit)) ⌝ }
 {
-    let d = job::half(job, 1);
-    let n = job::half(job, 2);
-    let r = job::half(job, 3) as usize;
+    let form = job::form_of(job);
+    let d = job::field(job, form, 1);
+    let n = job::field(job, form, 2);
+    let r = job::field(job, form, 3) as usize;
     let m = ((d + 1) * n) as usize;
     let mut roots = [0u32; ROOTS_ROOM];
-    job::load(job, 6, &mut roots[..r]);
+    job::load(job, form, HEAD_FIELDS, &mut roots[..r]);
     let mut rows = [0u32; ROWS_ROOM];
-    job::load(job, 6 + r, &mut rows[..m]);
-    let p = job::half(job, 0);
+    job::load(job, form, HEAD_FIELDS + r, &mut rows[..m]);
+    let p = job::field(job, form, 0);
     write_given(p, d, n, &rows[..m], &roots[..r], out)
 }
 

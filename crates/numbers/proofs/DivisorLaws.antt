@@ -9,6 +9,7 @@ use borrow.Author.Tests.{eq-eqb, eqb-true}
 use lib.Dec.{eqb}
 use Rattle.algebra.specs.Prime.{Prime}
 use Rattle.algebra.specs.internal.Fp.{mod-mul-mod}
+use Rattle.numbers.specs.Words.{firstWhere}
 use Rattle.numbers.specs.Divisor.{leastDivisor, inverseOf}
 use Rattle.numbers.proofs.WordsLaws.{lt-or-ge, first-is, first-le}
 use Rattle.numbers.specs.internal.Limits.{modulusBound}
@@ -67,6 +68,17 @@ none-root p d two small none k lo hi e =
     two-cases zero l w = omega (arith, zero-mul k)
     two-cases (suc zero) l w = omega (arith, one-mul k)
     two-cases (suc (suc q)) l w = omega arith
+
+-- where the numbers below d were tried in vain, none of them divides p; and if p is below d * d too, it is prime
+pub trial-none : (p d : ℕ) → 2 ≤ d → firstWhere (λ k. eqb (p % k) 0) 2 (d - 2) ≡ d → None p d
+trial-none p d low tried k lo hi e =
+    let f = first-le (λ x. eqb (p % x) 0) 2 (d - 2) k lo (omega arith) (eq-eqb (p % k) 0 e) in
+    omega arith
+
+pub trial-prime : (p d : ℕ) → 2 ≤ p → p < d * d → None p d → Prime p
+trial-prime p d two small none =
+    let e = least-is p p two (le-refl p) (mod-self p) (none-root p d two small none) in
+    least-prime p two (omega arith)
 
 pub root-small : (d : ℕ) → d * d < modulusBound → d < 4096
 root-small d h = ⊎-elim (λ (l : d < 4096). l) (λ (g : 4096 ≤ d). absurd (let f : 4096 * 4096 ≤ d * d = mul-le-mul g g in omega arith)) (lt-or-ge d 4096)

@@ -6,7 +6,7 @@ use mathlib.Core.List.{List, [], _∷_, _++_}
 use Prim.Native.Nat.{ℕ, _*_, _≤_, _<_}
 use native.Mathlib.Nat.{mul-le-mul}
 use native.Mathlib.Omega.{arith}
-use borrow.Author.Tests.{ltb-false, not-false, eqb-true, le-ltb}
+use borrow.Author.Tests.{ltb-false, not-false, eqb-true, le-ltb, lt-ltb}
 use lib.Dec.{ltb, eqb}
 use lib.ListN.{length}
 use mathlib.Core.Logic.{⊎-elim}
@@ -119,6 +119,11 @@ unfolding judge
 modulus-fine p prime h =
     let two = prime .two-le in
     simp (le-ltb p 2 (omega arith), le-ltb largestModulus p h, le-ltb (leastDivisor p) p (omega (arith, prime-least prime)))
+
+pub modulus-composite : (p d : ℕ) → 2 ≤ p → p ≤ largestModulus → leastDivisor p ≡ d → d < p → judge (modulusChecks p) ≡ Refuse (refusal 2 d)
+modulus-composite p d low high e less =
+    skip-check _ _ (rw (le-ltb p 2 low, le-ltb largestModulus p high))
+    ∙ take-check _ _ (ap (λ (x : ℕ). ltb x p) e ∙ lt-ltb d p less) ∙ ap (λ (x : ℕ). Refuse (refusal 2 x)) e
 
 -- what is known of an operation's input where checks 1 to 6 pass
 pub record Inputs (p N : ℕ) (f : List ℕ) (fRows : ℕ) (g : List ℕ) (gRows rows : ℕ) : Type 0 where

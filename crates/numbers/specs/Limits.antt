@@ -7,7 +7,7 @@
 use Prim.Native.Nat.{ℕ}
 
 abbrev pub largestModulus : ℕ
-largestModulus = 65535
+largestModulus = 16777215
 
 abbrev pub largestDegree : ℕ
 largestDegree = 32

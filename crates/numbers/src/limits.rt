@@ -1,5 +1,5 @@
 // The limits of the specification, by the names that `specs/Limits` gives them.
-pub const LARGEST_MODULUS: u32 = 65535;
+pub const LARGEST_MODULUS: u32 = 16777215; // three bytes
 
 pub const LARGEST_DEGREE: u32 = 32;
 

@@ -16,7 +16,8 @@ use Rattle.layout.proofs.PlacesLaws.{upto-power}
 use Rattle.layout.specs.Layout.{rowsAt, modulus, degree, width, terms, count, root, power, factor, factorsFrom, factorFrom}
 use Rattle.layout.specs.internal.Places.{HeaderIs}
 use Rattle.layout.specs.declared.Header.{Header}
-use Rattle.text.specs.Limits.{mostDegree, mostWidth, textRoom}
+use Rattle.job.specs.Limits.{mostDegree, mostWidth}
+use Rattle.text.specs.Limits.{textRoom}
 use Rattle.text.specs.internal.Rooms.{headRoom, rootRoom, rowRoom, factorsRoom}
 use Rattle.text.specs.internal.Putting.{Puts, Listable}
 use Rattle.text.specs.Text.{joinTo, rowLine, rowLines, rootLine, headLine, factorText, listingText}

@@ -1,10 +1,15 @@
 -- The starred examples, by evaluation.
 -- Assumes nothing.
-use mathlib.Core.Path.{refl}
+use native.Mathlib.Omega.{arith}
+use mathlib.Core.Path.{_≡_, refl}
 use Rattle.algebra.specs.Sums.{sumTo}
-use Rattle.numbers.specs.Words.{firstWhere, firstLarge, allTo, all, tabulate}
+use Rattle.numbers.specs.Limits.{largestModulus}
+use Rattle.numbers.specs.Words.{outside, firstWhere, firstLarge, allTo, all, tabulate}
 use Rattle.numbers.specs.Divisor.{leastDivisor}
-use Rattle.numbers.specs.Refusals.{judge}
+use Rattle.numbers.specs.Refusals.{check, refusal, judge, modulusChecks}
+use Rattle.numbers.specs.declared.refusal.Verdict.the-variants.{Pass, Refuse}
+use Rattle.numbers.proofs.DivisorLaws.{least-is, trial-none, trial-prime}
+use Rattle.numbers.proofs.RefusalsLaws.{take-check, modulus-fine, modulus-composite}
 use Rattle.rows.specs.Rows.{rowsOf, rowsBelow, mul, linePower, monic}
 use Rattle.pair.specs.Pair.{orderOf}
 use Rattle.pair.specs.Test.{productTest, pairTest}
@@ -14,9 +19,22 @@ use Rattle.open.specs.Open.{upwards, choices, find, splitsTest, powersOf, neede
 use Rattle.extend.specs.Extend.{extendVerdict}
 use Rattle.text.specs.Decimal.{digits, digitsWithin}
 use Rattle.text.specs.Text.{listingText, headLine, rootLine, rowLine, rowLines, factorText, joinTo, numbersText, moreNumbers}
-use Rattle.listing.specs.Job.{half, jobGiven, listVerdict}
+use Rattle.job.specs.Job.{number, isWide, fieldsFrom, fieldSize, field}
+use Rattle.listing.specs.Listing.{jobGiven, listVerdict}
 use Rattle.theorems.specs.Starred.{Starred}
 
+-- The definition of the least divisor would try millions of numbers here: so the moduli at the limit are judged by trial division, and only that is evaluated.
+largest-prime : judge (modulusChecks 16777213) ≡ Pass
+unfolding firstWhere
+largest-prime = modulus-fine 16777213 (trial-prime 16777213 4097 (omega arith) (omega arith) (trial-none 16777213 4097 (omega arith) refl)) (omega arith)
+
+largest-composite : judge (modulusChecks 16777215) ≡ Refuse (refusal 2 3)
+unfolding firstWhere
+largest-composite = modulus-composite 16777215 3 (omega arith) (omega arith) (least-is 16777215 3 (omega arith) (omega arith) refl (trial-none 16777215 3 (omega arith) refl)) (omega arith)
+
+out-of-range : judge (modulusChecks 16777216) ≡ Refuse (refusal 1 0)
+out-of-range = take-check (check 1 (outside 2 largestModulus 16777216) 0) _ refl
+
 pub starred : Starred
-unfolding judge leastDivisor firstWhere firstLarge allTo all sumTo rowsOf mul monic orderOf rowsBelow productTest pairTest linePower product primeTest factorsTest headerTest bodyTest soundTest upwards choices find splitsTest powersOf needed openVerdict extendVerdict half jobGiven listVerdict listingText headLine rootLine rowLine rowLines factorText joinTo tabulate digits digitsWithin numbersText moreNumbers
-starred = (refl, refl, refl, refl, refl, refl, refl, refl, refl, refl, refl, refl, refl, refl, refl, refl, refl, refl, refl, refl, refl, refl, refl, refl, refl, refl, refl, refl, refl)
+unfolding judge leastDivisor firstWhere firstLarge allTo all sumTo rowsOf mul monic orderOf rowsBelow productTest pairTest linePower product primeTest factorsTest headerTest bodyTest soundTest upwards choices find splitsTest powersOf needed openVerdict extendVerdict number isWide fieldsFrom fieldSize field jobGiven listVerdict listingText headLine rootLine rowLine rowLines factorText joinTo tabulate digits digitsWithin numbersText moreNumbers
+starred = (refl, refl, refl, refl, refl, refl, refl, refl, refl, refl, refl, refl, refl, refl, refl, refl, refl, refl, refl, refl, refl, refl, refl, refl, refl, largest-prime, largest-composite, out-of-range, refl, refl, refl, refl, refl, refl)

@@ -33,7 +33,8 @@ use Rattle.open.proofs.OpenTotalLaws.{opened-one}
 use Rattle.extend.proofs.ExtendTotalLaws.{extended-one}
 use Rattle.calls.proofs.Demand3Laws.{demand3}
 use Rattle.calls.proofs.OneLaws.{run-one, count-largest, replayed-one}
-use Rattle.listing.proofs.ListingLaws.{one-listing, listed-only}
+use Rattle.job.specs.Limits.{jobRoom}
+use Rattle.listing.proofs.ListingLaws.{one-listing, listed-only, listing-cut}
 use Rattle.theorems.specs.Theorems.{IsSeries, PairTheorems, SheetTheorems, CallTheorems, RowTheorems, Theorems}
 
 -- the checks of continuing are those of starting, and two more
@@ -80,6 +81,7 @@ call-theorems = record {
   replay-one = replayed-one;
   listing-one = one-listing;
   listed-only = listed-only;
+  listing-cut = λ job text h x. listing-cut job text jobRoom (omega arith) h x;
 }
 
 -- the quotient, where p is a prime, f and g are below p and g is not 0 at X = 0; f is given by its first N words

@@ -1,5 +1,5 @@
--- The starred examples of document 01, as one list: closed terms of the definitions that the contracts cite. `starred` in proofs/StarredLaws is
--- its proof, by evaluation alone.
+-- The starred examples of document 01 with the moduli and the wide file of F-2, as one list: closed terms of the definitions that the contracts cite. `starred` in
+-- proofs/StarredLaws is its proof, by evaluation; for the largest prime by trial division, whose law says when it may stop.
 --   Starred    the list
 -- Assumes nothing.
 use Prim.Native.Nat.{ℕ}
@@ -17,7 +17,7 @@ use Rattle.sheet.specs.Sheet.{Given, givenOf}
 use Rattle.open.specs.Open.{powersOf, needed, openVerdict}
 use Rattle.extend.specs.Extend.{extendVerdict}
 use Rattle.text.specs.Text.{bytes, listingText}
-use Rattle.listing.specs.Job.{jobGiven, listVerdict}
+use Rattle.listing.specs.Listing.{jobGiven, listVerdict}
 
 -- Y² − 1 − X over 7, three terms; its sheet with k terms and these factor rows
 abbrev job : Given
@@ -54,6 +54,13 @@ job-file =
     ++ (1 ∷ 0 ∷ 6 ∷ 0 ∷ []
     ++ (6 ∷ 0 ∷ 6 ∷ 0 ∷ 0 ∷ 0 ∷ 0 ∷ 0 ∷ 0 ∷ 0 ∷ 0 ∷ 0 ∷ 1 ∷ 0 ∷ 0 ∷ 0 ∷ 0 ∷ 0 ∷ []))
 
+-- and as a wide file: a word of 0, and the same in words of 32 bits
+abbrev wide-file : List ℕ
+wide-file =
+    0 ∷ 0 ∷ 7 ∷ 0 ∷ 0 ∷ 0 ∷ 2 ∷ 0 ∷ 0 ∷ 0 ∷ 3 ∷ 0 ∷ 0 ∷ 0 ∷ 2 ∷ 0 ∷ 0 ∷ 0 ∷ 26 ∷ 0 ∷ 0 ∷ 0 ∷ 34 ∷ 0 ∷ 0 ∷ 0 ∷ []
+    ++ (1 ∷ 0 ∷ 0 ∷ 0 ∷ 6 ∷ 0 ∷ 0 ∷ 0 ∷ []
+    ++ (6 ∷ 0 ∷ 0 ∷ 0 ∷ 6 ∷ 0 ∷ 0 ∷ 0 ∷ 0 ∷ 0 ∷ 0 ∷ 0 ∷ 0 ∷ 0 ∷ 0 ∷ 0 ∷ 0 ∷ 0 ∷ 0 ∷ 0 ∷ 0 ∷ 0 ∷ 0 ∷ 0 ∷ 1 ∷ 0 ∷ 0 ∷ 0 ∷ 0 ∷ 0 ∷ 0 ∷ 0 ∷ 0 ∷ 0 ∷ 0 ∷ 0 ∷ []))
+
 -- its listing
 abbrev job-text : List ℕ
 job-text = bytes "mod 7 terms 3 degree 2 factors 2\nroot 1 power 1\nY^0: 6 3 1\nroot 6 power 1\nY^0: 1 4 6\n"
@@ -64,9 +71,11 @@ Starred =
     (openVerdict job 29 ≡ Pass)
     × (needed job ≡ 29)
     × (soundTest (job-sheet 3 (6 ∷ 3 ∷ 1 ∷ 1 ∷ 4 ∷ 6 ∷ [])) ≡ true)
-    -- as a file it is read to that job and passes; the listing of its sheet is the text, byte for byte
+    -- as a file of either kind it is read to that job and passes; the listing of its sheet is the text, byte for byte
     × (jobGiven job-file ≡ job)
     × (listVerdict job-file ≡ Pass)
+    × (jobGiven wide-file ≡ job)
+    × (listVerdict wide-file ≡ Pass)
     × (listingText (job-sheet 3 (6 ∷ 3 ∷ 1 ∷ 1 ∷ 4 ∷ 6 ∷ [])) ≡ job-text)
     -- p = 2: the factor of root 0 has power 2, rows 0 1 and 0 0; the factor of root 1 has row 1 0
     × (openVerdict double 28 ≡ Pass)
@@ -86,11 +95,15 @@ Starred =
     × (pairTest 5 1 1 pair3 1 (1 ∷ 1 ∷ []) ≡ true)
     -- p = 7, Y² − 1, roots 1 alone: 9
     × (openVerdict alone 100 ≡ Refuse (refusal 9 0))
-    -- p = 91: 2, detail 7; p = 65,521 passes, 65,535 gives 2 with 3, 65,536 gives 1
+    -- p = 91: 2, detail 7; p = 65,521 passes, 65,535 gives 2 with 3, 65,536 gives 2 with 2
     × (judge (modulusChecks 91) ≡ Refuse (refusal 2 7))
     × (judge (modulusChecks 65521) ≡ Pass)
     × (judge (modulusChecks 65535) ≡ Refuse (refusal 2 3))
-    × (judge (modulusChecks 65536) ≡ Refuse (refusal 1 0))
+    × (judge (modulusChecks 65536) ≡ Refuse (refusal 2 2))
+    -- 16,777,213 passes, 16,777,215 gives 2 with 3, 16,777,216 gives 1
+    × (judge (modulusChecks 16777213) ≡ Pass)
+    × (judge (modulusChecks 16777215) ≡ Refuse (refusal 2 3))
+    × (judge (modulusChecks 16777216) ≡ Refuse (refusal 1 0))
     -- w = N passes, N + 1 is 14, 0 is 14
     × (extendVerdict (job-sheet 1 (6 ∷ 0 ∷ 0 ∷ 1 ∷ 0 ∷ 0 ∷ [])) 3 ≡ Pass)
     × (extendVerdict (job-sheet 1 (6 ∷ 0 ∷ 0 ∷ 1 ∷ 0 ∷ 0 ∷ [])) 4 ≡ Refuse (refusal 14 0))

@@ -7,7 +7,7 @@ use mathlib.Core.Path.{_≡_}
 use mathlib.Core.Logic.{_↔_}
 use mathlib.Core.Bool.{true, false}
 use mathlib.Core.List.{List, [], _∷_}
-use lib.ListN.{length}
+use lib.ListN.{length, take}
 use Rattle.algebra.specs.Prime.{Prime}
 use Rattle.numbers.specs.Words.{word, tabulate}
 use Rattle.numbers.specs.Divisor.{inverseOf}
@@ -25,6 +25,7 @@ use Rattle.open.specs.Open.{needed, openVerdict, Opened}
 use Rattle.extend.specs.Extend.{Extended}
 use Rattle.calls.specs.Calls.{Call, Run, Lendable, countAnswers, countTerms, largestAccepted, Demand3}
 use Rattle.calls.specs.Replay.{Replayed}
+use Rattle.job.specs.Limits.{jobRoom}
 use Rattle.listing.specs.Listing.{IsListing, Listed}
 
 abbrev pub IsSeries : (p N : ℕ) → List ℕ → Type 0
@@ -66,6 +67,8 @@ pub record CallTheorems : Type 0 where
   -- A job comes to exactly one text, and listing it has one outcome only.
   pub listing-one : (job : List ℕ) → One (IsListing job)
   pub listed-only : (job old : List ℕ) (a a′ : Outcome ℕ) (new new′ : List ℕ) → Listed job old a new → Listed job old a′ new′ → (a ≡ a′) × (new ≡ new′)
+  -- Of a longer file the program reads the first `jobRoom` bytes, and these come to the same text.
+  pub listing-cut : (job text : List ℕ) → jobRoom ≤ length job → IsListing (take jobRoom job) text → IsListing job text
 
 -- Numbers, series and row polynomials.
 pub record RowTheorems : Type 0 where

@@ -8,7 +8,7 @@ use mathlib.Core.List.{List, _++_}
 use lib.ListN.{length, take, drop}
 use Rattle.layout.specs.Layout.{degree, width, count}
 use Rattle.layout.specs.internal.Places.{Placed}
-use Rattle.text.specs.Limits.{mostDegree, mostWidth}
+use Rattle.job.specs.Limits.{mostDegree, mostWidth}
 
 -- What a sheet must have so that its listing has room: `listable` says that every sound sheet within a job's limits has it.
 pub record Listable (s : List ℕ) : Type 0 where

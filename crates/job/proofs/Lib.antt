@@ -1,0 +1,2 @@
+pub mod JobLaws
+pub mod LengthLaws
