@@ -28,7 +28,7 @@ extern "C" {
 /* Why a call is refused. Checks run in the order of the numbers; where a call is lent a sheet and takes from it what it needs, 13 comes first. */
 enum bk_refusal {
     BK_ACCEPTED = 0,
-    BK_MODULUS_RANGE = 1, /* p is below 2 or above 65,535 */
+    BK_MODULUS_RANGE = 1, /* p is below 2 or above 16,777,215 */
     BK_COMPOSITE = 2,     /* p is composite; detail: its least divisor above 1 */
     BK_DEGREE = 3,        /* a degree bound, or a product's, is above 32; for opening a sheet also 0 */
     BK_TERMS = 4,         /* n is outside 1..256 */
@@ -94,8 +94,8 @@ uint64_t bk_sheet_factor_shift(const uint32_t *sheet, size_t sheet_count, uint32
  * answer, or the refusal's number and detail. Refused by 5: lent and w of unlike counts, or a call that lends more words than there are. */
 uint64_t bk_sheet_replay(uint32_t *sheet, size_t sheet_count, const uint32_t *lent, size_t lent_count, const uint32_t *w, size_t w_count, uint32_t *answers, size_t answers_count);
 
-/* The listing of a job file, which for a refused job is the one line `refused NUMBER DETAIL`. The answer is the number of bytes written; the only
- * refusal of the call itself is 10. */
+/* The listing of a job file of either kind, with fields of 16 bits or, after a first word of 0, of 32. For a refused job it is the one line
+ * `refused NUMBER DETAIL`. The answer is the number of bytes written; the only refusal of the call itself is 10. */
 uint64_t bk_list(const uint8_t *job, size_t job_count, uint8_t *out, size_t out_count);
 
 /* From here on nothing that a caller needs to read.

@@ -15,12 +15,18 @@ enum Kind {
 impl Kind {
     /// The bytes of the head.
     fn head(self) -> u32 {
-        if self == Kind::Wide { 26 } else { 12 }
+        match self {
+            Kind::Narrow => 12,
+            Kind::Wide => 26,
+        }
     }
 
     /// The bytes of a field.
     fn size(self) -> u32 {
-        if self == Kind::Wide { 4 } else { 2 }
+        match self {
+            Kind::Narrow => 2,
+            Kind::Wide => 4,
+        }
     }
 
     fn bytes(self, fields: &[u32]) -> Vec<u8> {

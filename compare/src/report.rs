@@ -69,7 +69,7 @@ pub const OPERATIONS: [Operation; 24] = [
 ];
 
 /// Kinds of inputs: each must have come up.
-pub const KINDS: [&str; 67] = [
+pub const KINDS: [&str; 68] = [
     "document 01's examples",
     "the sheet of document 02's F-8",
     "the moduli of document 02's F-2",
@@ -89,6 +89,7 @@ pub const KINDS: [&str; 67] = [
     "sheet: worked in several goes",
     "sheet: only its first words lent",
     "sheet: a list of calls",
+    "sheet: moduli around 2^16 and 2^24",
     "sheet: p or k changed",
     "sheet: p or k changed, still sound",
     "sheet: D, N, r or an offset changed",

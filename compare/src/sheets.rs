@@ -344,7 +344,23 @@ fn large(random: &mut Random, report: &mut Report) {
     }
 }
 
+/// Y³ splits alike modulo every prime, so its sheet stays sound under every modulus that is allowed, and under no other. 2^24 + 43 is a prime.
+fn every_modulus_for_one_sheet(random: &mut Random, report: &mut Report) {
+    let given = Given { p: 7, d: 3, n: 2, f: vec![0, 0, 0, 0, 0, 0, 1, 0], roots: vec![0] };
+    let mut sheet = opened(random, report, &given);
+    let allowed = [65_521, 65_537, 16_777_213].map(|p| (p, true));
+    let refused = [65_535, 65_536, 16_777_215, 16_777_216, 16_777_259].map(|p| (p, false));
+    for (p, sound) in allowed.into_iter().chain(refused) {
+        sheet[0] = p;
+        let is_sound = test(report, &sheet);
+        report.expect(is_sound == sound, &format!("a sheet of Y³ modulo {p}, sound: {is_sound}"));
+        extend(report, &sheet, 2);
+        report.kind("sheet: moduli around 2^16 and 2^24");
+    }
+}
+
 pub fn run(random: &mut Random, report: &mut Report) {
+    every_modulus_for_one_sheet(random, report);
     (0..12_000).for_each(|_| opening(random, report));
     for _ in 0..3_000 {
         let (p, d, n) = (random.prime(), random.degree().clamp(1, 12), random.columns().min(24));

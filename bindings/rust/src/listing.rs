@@ -13,7 +13,7 @@ pub fn list(job: &[u8], out: &mut [u8]) -> Answer {
     answer(unsafe { bk_list(job.as_ptr(), job.len(), out.as_mut_ptr(), out.len()) })
 }
 
-/// The listing of a job file.
+/// The listing of a job file of either kind: with fields of 16 bits, or, after a first word of 0, of 32 bits.
 ///
 /// ```
 /// let job = [7, 0, 2, 0, 1, 0, 2, 0, 12, 0, 16, 0, 1, 0, 6, 0, 6, 0, 0, 0, 1, 0];

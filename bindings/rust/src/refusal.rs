@@ -65,7 +65,7 @@ impl fmt::Display for Refusal {
         let Refusal { number, detail } = *self;
         write!(to, "refused {number}: ")?;
         match self.kind() {
-            Kind::ModulusRange => write!(to, "the modulus is below 2 or above 65535"),
+            Kind::ModulusRange => write!(to, "the modulus is below 2 or above 16777215"),
             Kind::Composite => write!(to, "the modulus is composite, {detail} divides it"),
             Kind::Degree => write!(to, "a degree bound is above 32 (or, opening a sheet, it is 0)"),
             Kind::Terms => write!(to, "the number of columns is not from 1 to 256"),

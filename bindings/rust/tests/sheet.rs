@@ -20,6 +20,18 @@ fn worked() -> Sheet {
     sheet
 }
 
+/// The square roots of 1 + X modulo the largest prime: ±(1 + X/2 − X²/8).
+#[test]
+fn a_modulus_of_three_bytes() {
+    let p = 16_777_213;
+    let f = [p - 1, p - 1, 0, 0, 0, 0, 1, 0, 0];
+    let mut sheet = Sheet::open(p, 2, 3, &f, &[1, p - 1]).expect("f splits so");
+    assert_eq!(sheet.extend(3), Ok(3));
+    assert_eq!(sheet.factor(0).map(|factor| factor.row(0).to_vec()), Ok(vec![p - 1, 8_388_606, 6_291_455]));
+    assert_eq!(Sheet::open(1 << 24, 2, 3, &f, &[1, p - 1]).map(drop), Err(Refusal { number: 1, detail: 0 }));
+    assert_eq!(Sheet::open(65_536, 2, 3, &f, &[1, p - 1]).map(drop), Err(Refusal { number: 2, detail: 2 }));
+}
+
 #[test]
 fn getters() {
     let sheet = worked();

@@ -1,6 +1,7 @@
 -- Laws of a job file.
 --   number-start, number-more, number-done, number-fits   a number read byte after byte, from the last one down
 --   wide-form, narrow-form                   the form by the first word
+--   narrow-reads                             fields of two bytes
 --   form-small                               the form is one of two
 --   placed, place-next, place-mono, place-few, place-head   where fields stand
 --   job-short, past-head, job-refused, job-sizes   what the checks come to, one after the other
@@ -66,6 +67,14 @@ wide-form b f zeros e s = form b f 2 4 e s (rw (eq-eqb (number b 0 2) 0 zeros) r
 pub narrow-form : (b : List ℕ) (f : Form) → (number b 0 2 ≡ 0 → ⊥) → f .first ≡ 0 → f .size ≡ 2 → FormIs b f
 unfolding fieldsFrom fieldSize isWide
 narrow-form b f word e s = form b f 0 2 e s (rw (ne-eqb (number b 0 2) 0 word) refl) (rw (ne-eqb (number b 0 2) 0 word) refl) (omega arith) (omega arith) (omega arith)
+
+-- a file that does not begin with a word of 0 has its fields, of two bytes, from its beginning on
+pub narrow-reads : (b : List ℕ) (i : ℕ) → 0 < word b 0 + 256 * word b 1 → (field b i ≡ word b (2 * i) + 256 * word b (2 * i + 1)) × (place b i ≡ 2 * i)
+unfolding field fieldsFrom fieldSize isWide number
+narrow-reads b i h =
+    let low : word b (0 + 2 * i) ≡ word b (2 * i) = ap (word b) (let z : 0 + 2 * i ≡ 2 * i = omega arith in z) in
+    let high : word b (suc (0 + 2 * i)) ≡ word b (2 * i + 1) = ap (word b) (let z : suc (0 + 2 * i) ≡ 2 * i + 1 = omega arith in z) in
+    rw (ne-eqb (word b 0 + 256 * (word b 1 + 256 * 0)) 0 (λ e. let z : ⊥ = omega arith in z)) (omega arith, omega arith)
 
 -- where fields stand
 pub placed : (b : List ℕ) (f : Form) (i : ℕ) → FormIs b f → f .first + f .size * i ≡ place b i

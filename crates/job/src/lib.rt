@@ -1,5 +1,5 @@
-// Reading a job file: numbers of two bytes, or of four in a wide file, the low byte first. But for `check_job`, these trust their caller: they have a `requires`,
-// and are for the crates of this repository.
+// Reading a job file: its fields have two bytes each, or, in a wide file, four. But for `check_job`, these trust their caller: they have a `requires`, and are for
+// the crates of this repository.
 use crate::limits::HEAD_FIELDS;
 use crate::limits::MOST_DEGREE;
 use crate::limits::MOST_WIDTH;
@@ -19,13 +19,13 @@ ghost use Rattle.job.specs.internal.Form.{FormIs, mostFields};
 
 pub mod limits; // how large a job is
 
-fn wide(byte: u8) -> u32
+fn word_of(byte: u8) -> u32
     ensures { λ r. ⌜ (r ≡ byte) × (r < 256) ⌝ }
 {
     byte as u32
 }
 
-// The number that `size` bytes hold from byte `at` on.
+// The number that `size` bytes hold from byte `at` on, the low byte first: so it is read from the last one down.
 fn number(job: &[u8], at: usize, size: usize) -> u32
     requires { ⌜ (at + size ≤ length (now job)) × (size ≤ 4) ⌝ }
     ensures { λ r. ⌜ r ≡ number (now (job .entry)) at size ⌝ }
@@ -34,7 +34,7 @@ fn number(job: &[u8], at: usize, size: usize) -> u32
     let mut left = size;
     while 0 < left {
         left -= 1;
-        value = wide(job[at + left]) + 256 * value;
+        value = word_of(job[at + left]) + 256 * value;
     }
     value
 }

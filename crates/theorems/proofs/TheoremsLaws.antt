@@ -34,6 +34,7 @@ use Rattle.extend.proofs.ExtendTotalLaws.{extended-one}
 use Rattle.calls.proofs.Demand3Laws.{demand3}
 use Rattle.calls.proofs.OneLaws.{run-one, count-largest, replayed-one}
 use Rattle.job.specs.Limits.{jobRoom}
+use Rattle.job.proofs.JobLaws.{narrow-reads}
 use Rattle.listing.proofs.ListingLaws.{one-listing, listed-only, listing-cut}
 use Rattle.theorems.specs.Theorems.{IsSeries, PairTheorems, SheetTheorems, CallTheorems, RowTheorems, Theorems}
 
@@ -81,6 +82,7 @@ call-theorems = record {
   replay-one = replayed-one;
   listing-one = one-listing;
   listed-only = listed-only;
+  narrow-job = narrow-reads;
   listing-cut = λ job text h x. listing-cut job text jobRoom (omega arith) h x;
 }
 

@@ -26,6 +26,7 @@ use Rattle.extend.specs.Extend.{Extended}
 use Rattle.calls.specs.Calls.{Call, Run, Lendable, countAnswers, countTerms, largestAccepted, Demand3}
 use Rattle.calls.specs.Replay.{Replayed}
 use Rattle.job.specs.Limits.{jobRoom}
+use Rattle.job.specs.Job.{place, field}
 use Rattle.listing.specs.Listing.{IsListing, Listed}
 
 abbrev pub IsSeries : (p N : ℕ) → List ℕ → Type 0
@@ -67,6 +68,8 @@ pub record CallTheorems : Type 0 where
   -- A job comes to exactly one text, and listing it has one outcome only.
   pub listing-one : (job : List ℕ) → One (IsListing job)
   pub listed-only : (job old : List ℕ) (a a′ : Outcome ℕ) (new new′ : List ℕ) → Listed job old a new → Listed job old a′ new′ → (a ≡ a′) × (new ≡ new′)
+  -- A file that does not begin with a word of 0 is read as document 01 has it: field i has two bytes, and byte 2i is its first.
+  pub narrow-job : (job : List ℕ) (i : ℕ) → 0 < word job 0 + 256 * word job 1 → (field job i ≡ word job (2 * i) + 256 * word job (2 * i + 1)) × (place job i ≡ 2 * i)
   -- Of a longer file the program reads the first `jobRoom` bytes, and these come to the same text.
   pub listing-cut : (job text : List ℕ) → jobRoom ≤ length job → IsListing (take jobRoom job) text → IsListing job text
 

@@ -9,9 +9,6 @@ use Rattle.job.proofs.JobLaws.{number-start, number-more, number-done, 
 use borrow.Author.Needs.{needs}
 use Rattle.job.proofs.number.Statement.{statement}
 use Rattle.job.proofs.number.Tie as tie
-use Rattle.job.proofs.number.Reads as reads
-use Rattle.job.proofs.number.Lts as lts
-use Rattle.job.proofs.wide.Reads as wide-reads
 
 abbrev Inv-loop : tie.InvT-loop
 Inv-loop job at size value₀ left₀ value left = (left ≤ size) × (value ≡ number job (at + left) (size - left)) × (value < bytesBound (size - left))
@@ -23,47 +20,37 @@ abbrev μ-loop : tie.MeasureT-loop
 fits : (b : tie.In-loop Inv-loop μ-loop) → b .before .loop .value < 16777216
 fits b = number-fits _ (b .before .loop .value) (omega arith) (b .before .loop .inv .2)
 
--- src/lib.rt:35:5
 loop-holds : tie.Need-loop-holds Inv-loop μ-loop
 loop-holds c = let z = number-start (c .before .args .job .now) (c .before .args .at) (c .before .args .size) in (omega arith, z .0, z .1)
 
--- src/lib.rt:36:9
 sub-left : tie.Need-sub-left Inv-loop μ-loop
 sub-left c = search needs
 
--- src/lib.rt:37:26
-add-wide : tie.Need-add-wide Inv-loop μ-loop
-add-wide c = search needs
+add-word-of : tie.Need-add-word-of Inv-loop μ-loop
+add-word-of c = search needs
 
--- src/lib.rt:37:22
-shared-slice-read-wide : tie.Need-shared-slice-read-wide Inv-loop μ-loop
-shared-slice-read-wide c = search needs
+shared-slice-read-word-of : tie.Need-shared-slice-read-word-of Inv-loop μ-loop
+shared-slice-read-word-of c = search needs
 
--- src/lib.rt:37:17
-wide-requires : tie.Need-wide-requires Inv-loop μ-loop
-wide-requires c κs = search needs
+word-of-requires : tie.Need-word-of-requires Inv-loop μ-loop
+word-of-requires c κs = search needs
 
--- src/lib.rt:37:40
 mul-value : tie.Need-mul-value Inv-loop μ-loop
 mul-value c = omega (arith, fits (c .before .before))
 
--- src/lib.rt:37:17
 add-value : tie.Need-add-value Inv-loop μ-loop
 add-value c = omega (arith, fits (c .before .before))
 
--- src/lib.rt:35:5
 loop-less : tie.Need-loop-less Inv-loop μ-loop
 loop-less c = search needs
 
--- src/lib.rt:35:5
 loop-again : tie.Need-loop-again Inv-loop μ-loop
 loop-again c =
     let a = c .before .before .before .before .before .args in
     let l = c .before .before .before .loop in
-    let more = number-more (a .job .now) (a .at) (a .size) (l .left) (l .value) _ (c .before .before .loop-test .taken) (l .inv .0) (l .inv .1) (l .inv .2) (c .wide .ensures .0) (c .wide .ensures .1) in
+    let more = number-more (a .job .now) (a .at) (a .size) (l .left) (l .value) _ (c .before .before .loop-test .taken) (l .inv .0) (l .inv .1) (l .inv .2) (c .word-of .ensures .0) (c .word-of .ensures .1) in
     (omega arith, more .0, more .1)
 
--- src/lib.rt:29:1
 returns : tie.Need-returns Inv-loop μ-loop
 returns c = let a = c .before .before .before .args in number-done (a .job .now) (a .at) (a .size) _ _ (c .before .loop .inv .1) (omega arith)
 
@@ -75,9 +62,9 @@ number-spec =
     μ-loop
     loop-holds
     sub-left
-    add-wide
-    shared-slice-read-wide
-    wide-requires
+    add-word-of
+    shared-slice-read-word-of
+    word-of-requires
     mul-value
     add-value
     loop-less
