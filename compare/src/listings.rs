@@ -184,10 +184,10 @@ fn every_length(random: &mut Random, report: &mut Report, kind: Kind, given: &Gi
     }
 }
 
-/// Twelve factors Y + s, 64 columns, modulo the largest prime. A root and its s at X = 0 come to p, so only one of them has eight digits; all else has eight.
+/// Twelve factors Y + s, 64 columns, modulo the largest prime. A root and its s at X = 0 come to p, so one of them has seven digits; all else has eight.
 fn longest(random: &mut Random, report: &mut Report) {
     let (p, n) = (16_777_213u32, 64);
-    let roots: Vec<u32> = (0..12).map(|i| 10_000_000 + 500_000 * i + random.below(500_000)).collect();
+    let roots: Vec<u32> = (0..12).map(|i| 10_000_000 + 480_000 * i + random.below(480_000)).collect();
     let factor = |random: &mut Random, root: u32| {
         let mut s: Vec<u64> = (0..n).map(|_| random.within(10_000_000, p - 1) as u64).collect();
         s[0] = (p - root) as u64;
