@@ -7,7 +7,7 @@ use Prim.Native.Nat.{ℕ, _≤_, _<_}
 use native.Mathlib.Omega.{arith}
 use mathlib.Core.Path.{_≡_, refl, _∙_, ap, ap₂}
 use mathlib.Core.Logic.{_⊎_, inl, inr}
-use mathlib.Core.Bool.{Bool, true, false, not, _||_}
+use mathlib.Core.Bool.{Bool, true, false, not, _||_, or-true}
 use mathlib.Core.List.{List, [], _∷_}
 use borrow.Author.Tests.{ltb-false, lt-ltb, le-ltb, not-false}
 use lib.Dec.{ltb}
@@ -67,10 +67,6 @@ module _ (old : List ℕ) (w : ℕ) where
     pub extend-beyond : (w ≡ 0) ⊎ (width old < w) → extendVerdict old w ≡ Refuse (refusal 14 0)
     extend-beyond u = extend-outside (go u)
       where
-        or-true : (b : Bool) → (b || true) ≡ true
-        or-true true = refl
-        or-true false = refl
-
         go : (w ≡ 0) ⊎ (width old < w) → outside 1 (width old) w ≡ true
         go (inl e) = rw (lt-ltb w 1 (omega arith))
         go (inr l) = rw (lt-ltb (width old) w l) (or-true (ltb w 1))

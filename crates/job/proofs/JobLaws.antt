@@ -1,15 +1,14 @@
 -- Laws of a job file.
 --   number-start, number-more, number-done, number-fits   a number read byte after byte, from the last one down
---   wide-form, narrow-form                   the form by the first word
+--   form-small, wide-form, narrow-form       the form is one of two, by the first word
 --   narrow-reads                             fields of two bytes
---   form-small                               the form is one of two
 --   placed, place-next, place-mono, place-few, place-head   where fields stand
 --   job-short, past-head, job-refused, job-sizes   what the checks come to, one after the other
 --   words-small, loaded                      how many words the rows have; fields where they were loaded
 --   job-pass                                 what is known of a job whose own checks pass
 -- Assumes nothing.
 use Prim.Native.Nat.{ℕ, zero, suc, _+_, _-_, _*_, _≤_, _<_}
-use native.Mathlib.Nat.{mul-le-mul, mul-add}
+use native.Mathlib.Nat.{le-refl, mul-le-mul, mul-add}
 use native.Mathlib.Omega.{arith}
 use mathlib.Core.Path.{_≡_, refl, sym, ap, ap₂, _∙_}
 use mathlib.Core.Bool.{Bool, true, false, not, _||_}
@@ -55,18 +54,26 @@ number-fits (suc (suc zero)) value h l = omega arith
 number-fits (suc (suc (suc zero))) value h l = omega arith
 number-fits (suc (suc (suc (suc n)))) value h l = omega arith
 
--- the form by the first word
-form : (b : List ℕ) (f : Form) (first size : ℕ) → f .first ≡ first → f .size ≡ size → fieldsFrom b ≡ first → fieldSize b ≡ size → first ≤ 2 → 2 ≤ size → size ≤ 4 → FormIs b f
-form b f first size e s from long high low most =
-    record { first-is = e ∙ sym from; size-is = s ∙ sym long; first-high = omega arith; size-low = omega arith; size-high = omega arith }
+-- the form is one of two
+pub form-small : (b : List ℕ) → (fieldsFrom b ≤ 2) × (2 ≤ fieldSize b) × (fieldSize b ≤ 4)
+unfolding fieldsFrom fieldSize
+form-small b = go (isWide b)
+  where
+    go : (w : Bool) → (choose w 2 0 ≤ 2) × (2 ≤ choose w 4 2) × (choose w 4 2 ≤ 4)
+    go true = (omega arith, omega arith, omega arith)
+    go false = (omega arith, omega arith, omega arith)
+
+-- it is known by the first word
+form : (b : List ℕ) (f : Form) → f .first ≡ fieldsFrom b → f .size ≡ fieldSize b → FormIs b f
+form b f e s = let z = form-small b in record { first-is = e; size-is = s; first-high = omega arith; size-low = omega arith; size-high = omega arith }
 
 pub wide-form : (b : List ℕ) (f : Form) → number b 0 2 ≡ 0 → f .first ≡ 2 → f .size ≡ 4 → FormIs b f
 unfolding fieldsFrom fieldSize isWide
-wide-form b f zeros e s = form b f 2 4 e s (rw (eq-eqb (number b 0 2) 0 zeros) refl) (rw (eq-eqb (number b 0 2) 0 zeros) refl) (omega arith) (omega arith) (omega arith)
+wide-form b f zeros e s = let w = eq-eqb (number b 0 2) 0 zeros in form b f (rw w e) (rw w s)
 
 pub narrow-form : (b : List ℕ) (f : Form) → (number b 0 2 ≡ 0 → ⊥) → f .first ≡ 0 → f .size ≡ 2 → FormIs b f
 unfolding fieldsFrom fieldSize isWide
-narrow-form b f word e s = form b f 0 2 e s (rw (ne-eqb (number b 0 2) 0 word) refl) (rw (ne-eqb (number b 0 2) 0 word) refl) (omega arith) (omega arith) (omega arith)
+narrow-form b f other e s = let w = ne-eqb (number b 0 2) 0 other in form b f (rw w e) (rw w s)
 
 -- a file that does not begin with a word of 0 has its fields, of two bytes, from its beginning on
 pub narrow-reads : (b : List ℕ) (i : ℕ) → 0 < word b 0 + 256 * word b 1 → (field b i ≡ word b (2 * i) + 256 * word b (2 * i + 1)) × (place b i ≡ 2 * i)
@@ -84,19 +91,10 @@ pub place-next : (b : List ℕ) (i : ℕ) → place b (i + 1) ≡ place b i + fi
 place-next b i = omega (arith, mul-add (fieldSize b) i 1)
 
 pub place-mono : (b : List ℕ) (i k : ℕ) → i ≤ k → place b i ≤ place b k
-place-mono b i k h = let m : fieldSize b * i ≤ fieldSize b * k = mul-le-mul (let r : fieldSize b ≤ fieldSize b = omega arith in r) h in omega arith
+place-mono b i k h = let m : fieldSize b * i ≤ fieldSize b * k = mul-le-mul (le-refl (fieldSize b)) h in omega arith
 
 pub place-few : (size i : ℕ) → size ≤ 4 → i ≤ mostFields → size * i ≤ 3400
 place-few size i s h = mul-le-mul s h
-
--- the form is one of two
-pub form-small : (b : List ℕ) → (fieldsFrom b ≤ 2) × (2 ≤ fieldSize b) × (fieldSize b ≤ 4)
-unfolding fieldsFrom fieldSize
-form-small b = go (isWide b)
-  where
-    go : (w : Bool) → (choose w 2 0 ≤ 2) × (2 ≤ choose w 4 2) × (choose w 4 2 ≤ 4)
-    go true = (omega arith, omega arith, omega arith)
-    go false = (omega arith, omega arith, omega arith)
 
 -- so a head has 12 bytes at least, and 26 at most
 pub place-head : (b : List ℕ) → (12 ≤ place b headFields) × (place b headFields ≤ 26)

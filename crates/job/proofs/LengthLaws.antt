@@ -6,17 +6,16 @@
 use Prim.Native.Nat.{ℕ, zero, suc, _+_, _*_, _≤_, _<_}
 use native.Mathlib.Omega.{arith}
 use mathlib.Core.Path.{_≡_, refl, sym, ap, ap₂, _∙_}
-use mathlib.Core.Bool.{Bool, true, false, _||_}
+use mathlib.Core.Bool.{Bool, true, false, _||_, or-true}
 use mathlib.Core.List.{List, [], _∷_, _++_}
 use lib.Dec.{ltb, eqb}
 use lib.ListN.{length, take}
 use lib.Seq.{getD-take, length-take-le}
 use borrow.Author.Tests.{ltb-false, ne-eqb}
 use Rattle.numbers.specs.Words.{word, choose, outside}
-use Rattle.numbers.specs.Refusals.{Check, check, judge, refusal, modulusChecks}
-use Rattle.numbers.specs.declared.refusal.Verdict.{Verdict}
-use Rattle.numbers.specs.declared.refusal.Verdict.the-variants.{Pass, Refuse}
-use Rattle.numbers.proofs.RefusalsLaws.{pass-check, pass-parts, inside}
+use Rattle.numbers.specs.Refusals.{Check, check, judge, modulusChecks}
+use Rattle.numbers.specs.declared.refusal.Verdict.the-variants.{Pass}
+use Rattle.numbers.proofs.RefusalsLaws.{after-same, pass-check, pass-parts, inside}
 use Rattle.numbers.proofs.WordsLaws.{true-false}
 use Rattle.job.specs.Limits.{mostDegree, mostWidth, headFields}
 use Rattle.job.specs.Job.{number, isWide, fieldsFrom, fieldSize, place, field, jobModulus, jobDegree, jobWidth, jobCount, misplaced, jobChecks}
@@ -26,10 +25,6 @@ use Rattle.job.proofs.JobLaws.{form-small, place-next, place-mono, plac
 -- what is left of the checks where the length is wrong anyway
 abbrev longChecks : (p D N : ℕ) → List Check
 longChecks p D N = modulusChecks p ++ (check 3 (outside 1 mostDegree D) 0 ∷ check 4 (outside 1 mostWidth N) 0 ∷ check 5 true 0 ∷ [])
-
-or-true : (a : Bool) → a || true ≡ true
-or-true true = refl
-or-true false = refl
 
 -- within the limits no right file is so long
 misplaced-long : (b : List ℕ) (D N : ℕ) → longestJob < length b → D ≤ mostDegree → N ≤ mostWidth → (ltb mostDegree (jobCount b) || misplaced b D N) ≡ true
@@ -52,15 +47,10 @@ last-applies true b x h = refl
 last-applies false true x h = refl
 last-applies false false x h = ap (λ (t : Bool). judge (check 3 false 0 ∷ check 4 false 0 ∷ check 5 t 0 ∷ [])) (h refl refl)
 
-judge-after : (cs xs ys : List Check) → judge xs ≡ judge ys → judge (cs ++ xs) ≡ judge (cs ++ ys)
-unfolding judge
-judge-after [] xs ys e = e
-judge-after (c ∷ cs) xs ys e = ap (λ (v : Verdict). choose (c .applies) (Refuse (refusal (c .number) (c .detail))) v) (judge-after cs xs ys e)
-
 pub too-long : (b : List ℕ) → longestJob < length b → judge (jobChecks b) ≡ judge (longChecks (jobModulus b) (jobDegree b) (jobWidth b))
 too-long b h =
     past-head b (omega (arith, place-head b .1))
-    ∙ judge-after (modulusChecks (jobModulus b)) _ _ (last-applies (outside 1 mostDegree (jobDegree b)) (outside 1 mostWidth (jobWidth b)) _
+    ∙ after-same (modulusChecks (jobModulus b)) _ _ (last-applies (outside 1 mostDegree (jobDegree b)) (outside 1 mostWidth (jobWidth b)) _
     (λ d n. misplaced-long b (jobDegree b) (jobWidth b) h (inside 1 mostDegree (jobDegree b) d .1) (inside 1 mostWidth (jobWidth b) n .1)))
 
 pub too-long-not : {A : Type 0} (b : List ℕ) → longestJob < length b → judge (jobChecks b) ≡ Pass → A

@@ -1,4 +1,4 @@
-// The limits of a job, by the names that `specs/Limits` gives them.
+// The limits of a job, by the names that `specs/Limits` gives them, and the room that they give (`specs/internal/Form`).
 pub const MOST_DEGREE: u32 = 12; // of D, and so of the number of roots
 
 pub const MOST_WIDTH: u32 = 64; // of N

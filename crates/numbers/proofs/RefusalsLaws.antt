@@ -51,6 +51,12 @@ after-refuse (c ∷ cs) ds r e = go (c .applies) e (after-refuse cs ds r)
     go true e more = e
     go false e more = more e
 
+-- what comes after a list of checks counts by its verdict alone
+pub after-same : (cs xs ys : List Check) → judge xs ≡ judge ys → judge (cs ++ xs) ≡ judge (cs ++ ys)
+unfolding judge
+after-same [] xs ys e = e
+after-same (c ∷ cs) xs ys e = ap (λ (v : Verdict). choose (c .applies) (Refuse (refusal (c .number) (c .detail))) v) (after-same cs xs ys e)
+
 pub pass-check : (c : Check) (cs : List Check) → judge (c ∷ cs) ≡ Pass → (c .applies ≡ false) × (judge cs ≡ Pass)
 unfolding judge
 pass-check c cs e = go (c .applies) e
@@ -120,6 +126,7 @@ modulus-fine p prime h =
     let two = prime .two-le in
     simp (le-ltb p 2 (omega arith), le-ltb largestModulus p h, le-ltb (leastDivisor p) p (omega (arith, prime-least prime)))
 
+-- and every other number in range is refused by its least divisor
 pub modulus-composite : (p d : ℕ) → 2 ≤ p → p ≤ largestModulus → leastDivisor p ≡ d → d < p → judge (modulusChecks p) ≡ Refuse (refusal 2 d)
 modulus-composite p d low high e less =
     skip-check _ _ (rw (le-ltb p 2 low, le-ltb largestModulus p high))

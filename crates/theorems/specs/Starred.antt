@@ -1,5 +1,5 @@
 -- The starred examples of document 01 with the moduli and the wide file of F-2, as one list: closed terms of the definitions that the contracts cite. `starred` in
--- proofs/StarredLaws is its proof, by evaluation; for the largest prime by trial division, whose law says when it may stop.
+-- proofs/StarredLaws is its proof: by evaluation, but for the moduli near 2^24, where laws say how little has to be evaluated.
 --   Starred    the list
 -- Assumes nothing.
 use Prim.Native.Nat.{ℕ}

@@ -3,10 +3,10 @@
 use mathlib.Core.Path.{_≡_, _∙_, sym}
 use mathlib.Core.Bool.{false}
 use native.Mathlib.Omega.{arith}
-use borrow.Author.Tests.{lt-ltb, le-ltb}
+use borrow.Author.Tests.{le-ltb}
 use Rattle.numbers.specs.Words.{outside}
 use Rattle.numbers.specs.Limits.{largestModulus}
-use Rattle.numbers.proofs.RefusalsLaws.{inside, take-check, skip-check, none-judged}
+use Rattle.numbers.proofs.RefusalsLaws.{inside, take-check, skip-check, none-judged, modulus-composite}
 use borrow.Author.Needs.{needs}
 use Rattle.numbers.proofs.judge.check_modulus.Statement.{statement}
 use Rattle.numbers.proofs.judge.check_modulus.Tie as tie
@@ -32,8 +32,8 @@ refuse-requires-2 c κs = search needs
 
 returns-2 : tie.Need-returns-2
 returns-2 c =
-    let d = c .before .before .least-divisor .ensures in
-    c .refuse2 .ensures ∙ sym (skip-check _ _ (in-range (c .before .before .before)) ∙ simp (← d) (take-check _ _ (lt-ltb _ _ (c .before .if2 .taken))))
+    let (low, high) = inside 2 largestModulus _ (in-range (c .before .before .before)) in
+    c .refuse2 .ensures ∙ sym (modulus-composite _ _ low high (sym (c .before .before .least-divisor .ensures)) (c .before .if2 .taken))
 
 returns-3 : tie.Need-returns-3
 returns-3 c = sym (skip-check _ _ (in-range (c .before .before)) ∙ skip-check _ _ (simp (← c .before .least-divisor .ensures) (le-ltb _ _ (c .if2 .left))) ∙ none-judged)
