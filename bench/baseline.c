@@ -12,7 +12,27 @@ static uint64_t refuse(uint32_t number, uint32_t detail) { return (uint64_t)numb
 
 /* --- numbers --- */
 
+enum { PRIMES_BELOW = 4096 }; /* its square is above every modulus */
+static uint32_t primes[PRIMES_BELOW];
+static size_t prime_count;
+
+static void sieve(void) {
+    static bool composite[PRIMES_BELOW];
+    for (uint32_t q = 2; q < PRIMES_BELOW; q++) {
+        if (composite[q]) continue;
+        primes[prime_count++] = q;
+        for (uint32_t m = q * q; m < PRIMES_BELOW; m += q) composite[m] = true;
+    }
+}
+
 static uint32_t least_divisor(uint32_t p) {
+    if (!prime_count) sieve();
+    for (size_t i = 0; i < prime_count && primes[i] * primes[i] <= p; i++)
+        if (p % primes[i] == 0) return primes[i];
+    return p;
+}
+
+static uint32_t least_divisor_by_every_number(uint32_t p) {
     for (uint32_t d = 2; d * d <= p; d++)
         if (p % d == 0) return d;
     return p;
@@ -27,11 +47,13 @@ static uint32_t inverse_of(uint32_t p, uint32_t a) {
     return (uint32_t)c;
 }
 
-static uint64_t check_modulus(uint32_t p) {
+static uint64_t judge(uint32_t p, uint32_t (*divisor)(uint32_t)) {
     if (p < 2 || p > 16777215) return refuse(1, 0);
-    uint32_t d = least_divisor(p);
+    uint32_t d = divisor(p);
     return d < p ? refuse(2, d) : 0;
 }
+
+static uint64_t check_modulus(uint32_t p) { return judge(p, least_divisor); }
 
 static bool all_below(uint32_t q, const uint32_t *s, size_t count) {
     for (size_t i = 0; i < count; i++)
@@ -45,11 +67,14 @@ static uint64_t check_words(uint32_t p, const uint32_t *s, size_t count, size_t 
     return 0;
 }
 
-uint64_t base_sum(uint32_t p, uint32_t value, uint32_t other) {
-    uint64_t r = check_modulus(p);
+static uint64_t sum(uint64_t r, uint32_t p, uint32_t value, uint32_t other) {
     if (r || (r = check_words(p, (uint32_t[]){value, other}, 2, 0))) return r;
     return (value + other) % p;
 }
+
+uint64_t base_sum(uint32_t p, uint32_t value, uint32_t other) { return sum(check_modulus(p), p, value, other); }
+
+uint64_t base_sum_by_every_number(uint32_t p, uint32_t value, uint32_t other) { return sum(judge(p, least_divisor_by_every_number), p, value, other); }
 
 /* --- series --- */
 

@@ -10,7 +10,7 @@
 #include <string.h>
 #include <time.h>
 
-enum { D = 32, ORDER = 16, MAX_N = 256, WORDS = 200000, SAMPLES = 41 };
+enum { D = 32, ORDER = 16, SHORT_N = 8, MAX_N = 256, WORDS = 200000, SAMPLES = 41 };
 
 static const uint32_t MODULI[] = {65521, 16777213}; /* the largest primes of two bytes and of three */
 enum { MODULI_COUNT = sizeof MODULI / sizeof *MODULI };
@@ -148,7 +148,10 @@ static bool same_sheet(void) {
     return out[1][8] == end && !memcmp(out[0], out[1], 5 * sizeof **out) && !memcmp(out[0] + 10, out[1] + 10, (end - 10) * sizeof **out);
 }
 
-static const struct benchmark JUDGING = {"sum of two numbers", no_input, sum, same_words, 0, 0};
+/* Where a call's answer is all that it gives. */
+static bool no_words(void) { return true; }
+
+static const struct benchmark JUDGING = {"sum of two numbers", no_input, sum, no_words, 0, 0};
 
 static const struct benchmark BENCHMARKS[] = {
     {"series product", series_input, product, same_words, 0, 0},
@@ -231,28 +234,28 @@ static struct medians measure(const struct benchmark *b) {
     return take_turns(b);
 }
 
-static void print_growth(double before, double seconds) {
-    if (before > 0)
-        printf(" %.2f |\n", seconds / before);
-    else
-        printf(" |\n");
+/* A row of the table, after the time at half the N, or 0. */
+static struct medians table_row(const struct benchmark *b, double judging, double half) {
+    struct medians m = measure(b);
+    printf("| %s | %u | %.2f | %.0f %% | %.2f | %.2f |", b->name, n, m.seconds[0] * 1e6, 100 * judging / m.seconds[0], m.seconds[1] * 1e6, m.ratio);
+    if (half > 0) printf(" %.2f", m.seconds[0] / half);
+    printf(" |\n");
+    fflush(stdout);
+    return m;
 }
 
 static double benchmark_table(void) {
-    double worst = 0;
     n = 0;
     struct medians judging = measure(&JUDGING);
     printf("\np = %u. To judge it costs %.2f us (the sum of two numbers; C %.2f us), once in each call.\n\n", p, judging.seconds[0] * 1e6, judging.seconds[1] * 1e6);
     printf("| Operation | N | engine, us | of it judging p | C, us | engine / C | time against half the N |\n|---|---|---|---|---|---|---|\n");
+    n = SHORT_N;
+    double worst = table_row(&BENCHMARKS[0], judging.seconds[0], 0).ratio;
     for (int i = 0; i < COUNT; i++) {
-        double before = 0;
+        double half = 0;
         for (n = 64; n <= MAX_N; n *= 2) {
-            struct medians m = measure(&BENCHMARKS[i]);
-            printf("| %s | %u | %.2f | %.0f %% | %.2f | %.2f |", BENCHMARKS[i].name, n, m.seconds[0] * 1e6, 100 * judging.seconds[0] / m.seconds[0],
-                   m.seconds[1] * 1e6, m.ratio);
-            print_growth(before, m.seconds[0]);
-            fflush(stdout);
-            before = m.seconds[0];
+            struct medians m = table_row(&BENCHMARKS[i], judging.seconds[0], half);
+            half = m.seconds[0];
             if (m.ratio > worst) worst = m.ratio;
         }
     }
@@ -296,26 +299,27 @@ static void library_rows(void) {
     }
 }
 
-static void library_table(void) {
-    const struct other *found[] = {
+static const struct other *const LIBRARIES[] = {
 #ifdef HAVE_FLINT
-        &flint_series,
+    &flint_series,
 #endif
 #ifdef HAVE_NTL
-        &ntl_series,
+    &ntl_series,
 #endif
 #ifdef HAVE_PARI
-        &pari_series,
+    &pari_series,
 #endif
-        NULL,
-    };
-    if (!found[0]) {
+    NULL,
+};
+
+static void library_table(void) {
+    if (!LIBRARIES[0]) {
         printf("\nFLINT, NTL and PARI are not installed (Debian: libflint-dev, libntl-dev, libpari-dev), so nothing is said of them.\n");
         return;
     }
     printf("\n| Library | Nearest operation | p | N | engine, us | library, us | engine / library |\n|---|---|---|---|---|---|---|\n");
-    for (int i = 0; found[i]; i++) {
-        library = found[i];
+    for (int i = 0; LIBRARIES[i]; i++) {
+        library = LIBRARIES[i];
         for (size_t m = 0; m < MODULI_COUNT; m++) {
             p = MODULI[m];
             library_rows();
@@ -328,6 +332,33 @@ static void library_table(void) {
            "lift, the pair and the test stand without an opponent.\n");
 }
 
+/* --- judging the modulus --- */
+
+static uint64_t sum_by_every_number(int side) { return side ? base_sum_by_every_number(p, p - 1, 2) : sum(0); }
+
+static uint64_t library_prime(int side) { return side ? (uint64_t)library->is_prime(p) : sum(0); }
+
+static void judging_rows(const char *name, const struct benchmark *b) {
+    for (size_t i = 0; i < MODULI_COUNT; i++) {
+        p = MODULI[i];
+        struct medians m = measure(b);
+        printf("| %s | %u | %.2f | %.2f | %.2f |\n", name, p, m.seconds[0] * 1e6, m.seconds[1] * 1e6, m.ratio);
+    }
+}
+
+/* The engine's sum of two numbers against C's, and against the libraries' tests for primes, all of which answer 1. */
+static void judging_table(void) {
+    static const struct benchmark EVERY = {"sum of two numbers", no_input, sum_by_every_number, no_words, 0, 0};
+    static const struct benchmark LIBRARY = {"a test for primes", no_input, library_prime, no_words, 0, 0};
+    printf("\n| To judge p | p | engine, us | other, us | engine / other |\n|---|---|---|---|---|\n");
+    judging_rows("C, by the primes up to the root", &JUDGING);
+    judging_rows("C, by every number up to the root", &EVERY);
+    for (int i = 0; LIBRARIES[i]; i++) {
+        library = LIBRARIES[i];
+        judging_rows(library->name, &LIBRARY);
+    }
+}
+
 int main(void) {
     printf("D = %d; medians of %d samples of processor time, engine and C (gcc -O3 -march=x86-64) in turn on the same input, results identical.\n"
            "Each has its own sheet of the same polynomial: the C version's is document 01's, with cofactors. A ratio is the median of the ratios of two samples\n"
@@ -337,6 +368,7 @@ int main(void) {
         double worst = benchmark_table();
         printf("\nThe largest ratio is %.2f.\n", worst);
     }
+    judging_table();
     library_table();
     return 0;
 }

@@ -1,7 +1,8 @@
-/* FLINT's nmod_poly: product and inverse modulo X^n. */
+/* FLINT's nmod_poly: product and inverse modulo X^n; and n_is_prime. */
 #include "others.h"
 
 #include <flint/nmod_poly.h>
+#include <flint/ulong_extras.h>
 
 static nmod_poly_t g, h, result;
 static uint32_t columns;
@@ -25,4 +26,6 @@ static void give(uint32_t *out) {
     for (uint32_t t = 0; t < columns; t++) out[t] = (uint32_t)nmod_poly_get_coeff_ui(result, t);
 }
 
-const struct other flint_series = {"FLINT", load, product, inverse, give};
+static int is_prime(uint32_t p) { return n_is_prime(p); }
+
+const struct other flint_series = {"FLINT", load, product, inverse, give, is_prime};

@@ -1,6 +1,7 @@
-// NTL's zz_pX: product and inverse modulo X^n.
+// NTL's zz_pX: product and inverse modulo X^n; and ProbPrime, ten trials.
 #include "others.h"
 
+#include <NTL/ZZ.h>
 #include <NTL/lzz_pX.h>
 
 using namespace NTL;
@@ -27,4 +28,6 @@ static void give(uint32_t *out) {
     for (long t = 0; t < columns; t++) out[t] = static_cast<uint32_t>(rep(coeff(result, t)));
 }
 
-extern "C" const struct other ntl_series = {"NTL", load, product, inverse, give};
+static int is_prime(uint32_t p) { return ProbPrime(static_cast<long>(p)) != 0; }
+
+extern "C" const struct other ntl_series = {"NTL", load, product, inverse, give, is_prime};

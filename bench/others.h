@@ -14,6 +14,7 @@ struct other {
     void (*product)(void);
     void (*inverse)(void);
     void (*give)(uint32_t *out); /* the last result; not timed */
+    int (*is_prime)(uint32_t p);
 };
 
 extern const struct other flint_series, ntl_series, pari_series;

@@ -1,4 +1,4 @@
-/* PARI's Flx: product and inverse modulo X^n. */
+/* PARI's Flx: product and inverse modulo X^n; and uisprime. */
 #include "others.h"
 
 #include <pari/pari.h>
@@ -38,4 +38,6 @@ static void give(uint32_t *out) {
     for (long t = 0; t < columns; t++) out[t] = t + 2 < lg(result) ? (uint32_t)result[t + 2] : 0;
 }
 
-const struct other pari_series = {"PARI", load, product, inverse, give};
+static int is_prime(uint32_t p) { return uisprime(p); }
+
+const struct other pari_series = {"PARI", load, product, inverse, give, is_prime};

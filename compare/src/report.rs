@@ -69,12 +69,15 @@ pub const OPERATIONS: [Operation; 24] = [
 ];
 
 /// Kinds of inputs: each must have come up.
-pub const KINDS: [&str; 68] = [
+pub const KINDS: [&str; 71] = [
     "document 01's examples",
     "the sheet of document 02's F-8",
     "the moduli of document 02's F-2",
     "every modulus from 0 to 66,000",
     "every modulus from 16,776,000 to 16,778,000",
+    "a prime below 4,096, squared",
+    "two neighbours among these primes",
+    "a modulus drawn below 2^24",
     "a power of p or more",
     "32 rows or 256 columns",
     "several faults at once",

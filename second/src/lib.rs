@@ -3,7 +3,7 @@
 //!
 //! | | engine | here |
 //! |---|---|---|
-//! | prime modulus | trial division | a sieve of least divisors |
+//! | prime modulus | division by a table of primes | a sieve of least divisors |
 //! | inverse of a number | Euclid's remainders | Fermat's power |
 //! | inverse of a series | column after column | Newton's doubling |
 //! | shift | weights from binomials | Horner over row polynomials |

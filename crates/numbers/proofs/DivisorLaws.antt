@@ -3,7 +3,7 @@
 use mathlib.Core.Path.{_≡_, sym, ap, subst, _∙_}
 use mathlib.Core.Logic.{⊎-elim}
 use Prim.Native.Nat.{ℕ, zero, suc, _+_, _-_, _*_, _/_, _%_, _≤_, _<_}
-use native.Mathlib.Nat.{eq-or-lt-of-le, mul-le-mul, mul-le-mul-right, div-add-mod, div-add-mod', mul-mod-right, mul-comm, mul-add, mul-right-comm, le-refl, zero-mul, one-mul, suc-mul, mod-lt, mod-self, mod-eq-of-lt, mod-eq-zero-of-dvd, dvd-of-mod-eq-zero, div-le-self, sub-add-cancel, mul-add-mod-self-left}
+use native.Mathlib.Nat.{eq-or-lt-of-le, mul-le-mul, div-add-mod, div-add-mod', mul-mod-right, mul-comm, mul-add, mul-right-comm, le-refl, zero-mul, one-mul, suc-mul, mod-lt, mod-self, mod-eq-of-lt, mod-eq-zero-of-dvd, dvd-of-mod-eq-zero, dvd-trans, le-of-dvd, div-le-self, sub-add-cancel, mul-add-mod-self-left}
 use native.Mathlib.Omega.{arith}
 use borrow.Author.Tests.{eq-eqb, eqb-true}
 use lib.Dec.{eqb}
@@ -11,17 +11,37 @@ use Rattle.algebra.specs.Prime.{Prime}
 use Rattle.algebra.specs.internal.Fp.{mod-mul-mod}
 use Rattle.numbers.specs.Words.{firstWhere}
 use Rattle.numbers.specs.Divisor.{leastDivisor, inverseOf}
-use Rattle.numbers.proofs.WordsLaws.{lt-or-ge, first-is, first-le}
-use Rattle.numbers.specs.internal.Limits.{modulusBound}
+use Rattle.numbers.proofs.WordsLaws.{lt-or-ge, first-is, first-le, first-range, first-found}
 
 -- no number from 2 up to d, d left out, divides p
 abbrev pub None : ℕ → ℕ → Type 0
 None p d = (k : ℕ) → 2 ≤ k → k < d → p % k ≡ 0 → ⊥
 
+pub none-two : (p : ℕ) → None p 2
+none-two p k lo hi e = omega arith
+
+pub divisor-le : (p d : ℕ) → 2 ≤ p → p % d ≡ 0 → d ≤ p
+divisor-le p d two e = le-of-dvd (omega arith) (dvd-of-mod-eq-zero d e)
+
+pub divides-through : (p k d : ℕ) → p % k ≡ 0 → k % d ≡ 0 → p % d ≡ 0
+divides-through p k d e g = mod-eq-zero-of-dvd d (dvd-trans d (dvd-of-mod-eq-zero d g) (dvd-of-mod-eq-zero k e))
+
 pub none-more : (p d : ℕ) → None p d → (p % d ≡ 0 → ⊥) → None p (d + 1)
 none-more p d none here k lo hi e =
     ⊎-elim (λ (q : k ≡ d). here (subst (λ (j : ℕ). p % j ≡ 0) q e)) (λ (l : k < d). none k lo l e)
     (eq-or-lt-of-le {n = k} {m = d} (omega arith))
+
+-- the first divisor of p among n numbers from 2 on, or the number after them: none below it divides p
+abbrev pub trialDivisor : ℕ → ℕ → ℕ
+trialDivisor p n = firstWhere (λ d. eqb (p % d) 0) 2 n
+
+pub trial-none : (p n : ℕ) → None p (trialDivisor p n)
+trial-none p n k lo hi e =
+    let f = first-le (λ d. eqb (p % d) 0) 2 n k lo (omega (arith, first-range (λ d. eqb (p % d) 0) 2 n)) (eq-eqb (p % k) 0 e) in
+    omega arith
+
+pub trial-divides : (p n : ℕ) → trialDivisor p n < 2 + n → p % trialDivisor p n ≡ 0
+trial-divides p n l = eqb-true _ 0 (first-found (λ d. eqb (p % d) 0) 2 n l)
 
 -- the least divisor is the number above 1 that divides p and below which none does
 pub least-is : (p r : ℕ) → 2 ≤ r → r ≤ p → p % r ≡ 0 → None p r → leastDivisor p ≡ r
@@ -29,15 +49,29 @@ unfolding leastDivisor
 least-is p r lo hi at none =
     first-is (λ d. eqb (p % d) 0) 2 (p - 2) r lo (omega arith) (λ _. eq-eqb (p % r) 0 at) (λ k lo' hi' e. none k lo' hi' (eqb-true (p % k) 0 e))
 
+pub least-none : (p : ℕ) → None p (leastDivisor p)
+unfolding leastDivisor
+least-none p = trial-none p (p - 2)
+
+pub least-divides : (p : ℕ) → 2 ≤ p → (2 ≤ leastDivisor p) × (leastDivisor p ≤ p) × (p % leastDivisor p ≡ 0)
+unfolding leastDivisor
+least-divides p two =
+    let (lo, hi) = first-range (λ d. eqb (p % d) 0) 2 (p - 2) in (
+      lo,
+      omega arith,
+      ⊎-elim (λ (e : trialDivisor p (p - 2) ≡ p). ap (λ (d : ℕ). p % d) e ∙ mod-self p) (λ (l : trialDivisor p (p - 2) < p). trial-divides p (p - 2) (omega arith))
+          (eq-or-lt-of-le {n = trialDivisor p (p - 2)} {m = p} (omega arith)),
+    )
+
+-- a number that is not prime is the first divisor of none
+pub composite-none : (p d : ℕ) → 2 ≤ d → None p d → (leastDivisor d ≡ d → ⊥) → p % d ≡ 0 → ⊥
+composite-none p d two none composite e =
+    let (lo, hi, divides) = least-divides d two in
+    ⊎-elim composite (λ (l : leastDivisor d < d). none (leastDivisor d) lo l (divides-through p d (leastDivisor d) e divides)) (eq-or-lt-of-le hi)
+
 -- a number that is its own least divisor is prime, and only such a one
 pub least-prime : (p : ℕ) → 2 ≤ p → p ≤ leastDivisor p → Prime p
-unfolding leastDivisor
-least-prime p two h = record {
-  two-le = two;
-  no-divisor = λ d lo hi e.
-      let f = first-le (λ d. eqb (p % d) 0) 2 (p - 2) d lo (omega arith) (eq-eqb (p % d) 0 (mod-eq-zero-of-dvd d e)) in
-      let z : ⊥ = omega arith in z;
-}
+least-prime p two h = record { two-le = two; no-divisor = λ d lo hi e. least-none p d lo (omega arith) (mod-eq-zero-of-dvd d e) }
 
 pub prime-none : {p : ℕ} → Prime p → None p p
 prime-none prime k lo hi e = prime .no-divisor k lo hi (dvd-of-mod-eq-zero k e)
@@ -69,22 +103,10 @@ none-root p d two small none k lo hi e =
     two-cases (suc zero) l w = omega (arith, one-mul k)
     two-cases (suc (suc q)) l w = omega arith
 
--- where the numbers below d were tried in vain, none of them divides p; and if p is below d * d too, it is prime
-pub trial-none : (p d : ℕ) → 2 ≤ d → firstWhere (λ k. eqb (p % k) 0) 2 (d - 2) ≡ d → None p d
-trial-none p d low tried k lo hi e =
-    let f = first-le (λ x. eqb (p % x) 0) 2 (d - 2) k lo (omega arith) (eq-eqb (p % k) 0 e) in
-    omega arith
-
 pub trial-prime : (p d : ℕ) → 2 ≤ p → p < d * d → None p d → Prime p
 trial-prime p d two small none =
     let e = least-is p p two (le-refl p) (mod-self p) (none-root p d two small none) in
     least-prime p two (omega arith)
-
-pub root-small : (d : ℕ) → d * d < modulusBound → d < 4096
-root-small d h = ⊎-elim (λ (l : d < 4096). l) (λ (g : 4096 ≤ d). absurd (let f : 4096 * 4096 ≤ d * d = mul-le-mul g g in omega arith)) (lt-or-ge d 4096)
-
-pub below-square : (d : ℕ) → 2 ≤ d → d + 1 ≤ d * d
-below-square d h = let f : 2 * d ≤ d * d = mul-le-mul-right d h in omega arith
 
 turned : (p k : ℕ) → 0 < p → suc k * (p - p / suc k) ≡ p * k + p % suc k
 turned p k pos =

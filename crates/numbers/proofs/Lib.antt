@@ -1,5 +1,6 @@
 pub mod WordsLaws
 pub mod DivisorLaws
+pub mod PrimesLaws
 pub mod RefusalsLaws
 pub mod TestsLaws
 pub mod OneLaws

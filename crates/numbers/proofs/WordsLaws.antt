@@ -49,6 +49,16 @@ unfolding firstWhere
 first-le f d zero k lo hi e = omega arith
 first-le f d (suc n) k lo hi e = later f d k _ (f d) lo e refl (λ (x : d < k). first-le f (suc d) n k (omega arith) (omega arith) e)
 
+-- it is one of those searched, or the end
+between : (b : Bool) (d n t : ℕ) → suc d ≤ t → t ≤ suc d + n → (d ≤ choose b d t) × (choose b d t ≤ d + suc n)
+between true d n t lo hi = (le-refl d, omega arith)
+between false d n t lo hi = (omega arith, omega arith)
+
+pub first-range : (f : ℕ → Bool) (d n : ℕ) → (d ≤ firstWhere f d n) × (firstWhere f d n ≤ d + n)
+unfolding firstWhere
+first-range f d zero = (le-refl d, omega arith)
+first-range f d (suc n) = let (lo, hi) = first-range f (suc d) n in between (f d) d n _ lo hi
+
 -- none before it passes, and it does, unless it is the end
 pub first-before : (f : ℕ → Bool) (d n k : ℕ) → d ≤ k → k < firstWhere f d n → k < d + n → f k ≡ false
 first-before f d n k lo hi l = is-false (f k) (λ e. let z = first-le f d n k lo l e in let y : ⊥ = omega arith in y)

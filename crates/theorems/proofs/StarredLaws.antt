@@ -26,11 +26,11 @@ use Rattle.theorems.specs.Starred.{Starred}
 -- The definition of the least divisor would try millions of numbers here: so the moduli at the limit are judged by trial division, and only that is evaluated.
 largest-prime : judge (modulusChecks 16777213) ≡ Pass
 unfolding firstWhere
-largest-prime = modulus-fine 16777213 (trial-prime 16777213 4097 (omega arith) (omega arith) (trial-none 16777213 4097 (omega arith) refl)) (omega arith)
+largest-prime = modulus-fine 16777213 (trial-prime 16777213 4097 (omega arith) (omega arith) (trial-none 16777213 4095)) (omega arith)
 
 largest-composite : judge (modulusChecks 16777215) ≡ Refuse (refusal 2 3)
 unfolding firstWhere
-largest-composite = modulus-composite 16777215 3 (omega arith) (omega arith) (least-is 16777215 3 (omega arith) (omega arith) refl (trial-none 16777215 3 (omega arith) refl)) (omega arith)
+largest-composite = modulus-composite 16777215 3 (omega arith) (omega arith) (least-is 16777215 3 (omega arith) (omega arith) refl (trial-none 16777215 1)) (omega arith)
 
 out-of-range : judge (modulusChecks 16777216) ≡ Refuse (refusal 1 0)
 out-of-range = take-check (check 1 (outside 2 largestModulus 16777216) 0) _ refl

@@ -1,62 +1,43 @@
--- `numbers::kernel::least_divisor` meets its contract. The loop's invariant: no number from 2 up to d divides p, and d is at most 4096.
+-- `numbers::kernel::least_divisor` meets its contract: an answer below p is the least divisor, and so is every answer below the square of the part's end; and where the low primes do not
+-- divide p, no number below 256 does.
 -- Assumes nothing.
-use borrow.Author.Needs.{needs}
-use mathlib.Core.Path.{sym}
-use Prim.Native.Nat.{_≤_, _-_, _*_}
+use mathlib.Core.Path.{_∙_, subst}
+use Prim.Native.Nat.{_≤_, _<_}
 use native.Mathlib.Omega.{arith}
-use native.Mathlib.Nat.{mod-self, le-refl, mul-le-mul}
-use Rattle.numbers.proofs.DivisorLaws.{None, none-more, least-is, none-root, root-small, below-square}
+use borrow.Author.Needs.{needs}
+use Rattle.numbers.specs.internal.Limits.{tableBound, lowBound}
+use Rattle.numbers.proofs.DivisorLaws.{none-two}
+use Rattle.numbers.proofs.PrimesLaws.{among-below, among-least, among-none}
 use Rattle.numbers.proofs.kernel.least_divisor.Statement.{statement}
 use Rattle.numbers.proofs.kernel.least_divisor.Tie as tie
 
-abbrev Inv-loop : tie.InvT-loop
-Inv-loop p d₀ d = (2 ≤ d) × (d ≤ 4096) × (d ≤ p) × None p d
+first-low-requires : tie.Need-first-low-requires
+first-low-requires c κs = search needs
 
-abbrev μ-loop : tie.MeasureT-loop
-μ-loop p d₀ d = 4096 - d
-
-loop-holds : tie.Need-loop-holds Inv-loop μ-loop
-loop-holds c = (omega arith, omega arith, omega arith, λ k lo hi e. absurd (omega arith))
-
-mul-if1 : tie.Need-mul-if1 Inv-loop μ-loop
-mul-if1 c = record { fits = (let f : c .loop .d * c .loop .d ≤ 4096 * 4096 = mul-le-mul (c .loop .inv .1) (c .loop .inv .1) in omega arith) }
-
-rem-if2 : tie.Need-rem-if2 Inv-loop μ-loop
-rem-if2 c = search needs
-
-add-d : tie.Need-add-d Inv-loop μ-loop
-add-d c = search needs
-
-loop-less : tie.Need-loop-less Inv-loop μ-loop
-loop-less c = let d = c .before .before .loop .d in omega (arith, root-small d (omega arith))
-
-loop-again : tie.Need-loop-again Inv-loop μ-loop
-loop-again c =
-    let d = c .before .before .loop .d in
-    let i = c .before .before .loop .inv in
-    (omega arith, omega (arith, root-small d (omega arith)), omega (arith, below-square d (i .0)), none-more _ _ (i .3) (c .if2 .left))
-
-returns : tie.Need-returns Inv-loop μ-loop
+returns : tie.Need-returns
 returns c =
-    let p = c .before .before .args .p in
-    sym (least-is p p (omega arith) (le-refl p) (mod-self p) (none-root p _ (omega arith) (c .if1 .taken) (c .before .loop .inv .3)))
+    let b = c .before in
+    let p = b .before .args .p in
+    let found = b .first-low .ensures in
+    found ∙ among-below p 2 lowBound (b .before .pre .0) (omega arith) (omega arith) (none-two p) (subst (λ r. r < p) found (c .if1 .taken))
 
-returns-2 : tie.Need-returns-2 Inv-loop μ-loop
+returns-2 : tie.Need-returns-2
 returns-2 c =
-    let i = c .before .before .loop .inv in
-    sym (least-is _ _ (i .0) (i .2) (c .if2 .taken) (i .3))
+    let b = c .before .before in
+    let p = b .before .args .p in
+    b .first-low .ensures ∙ among-least p 2 lowBound (b .before .pre .0) (omega arith) (omega arith) (none-two p) (c .if2 .taken)
+
+first-high-requires : tie.Need-first-high-requires
+first-high-requires c κs = search needs
+
+returns-3 : tie.Need-returns-3
+returns-3 c =
+    let e = c .before .before in
+    let b = e .before in
+    let p = b .before .args .p in
+    let two = b .before .pre .0 in
+    let none = among-none p 2 lowBound two (omega arith) (omega arith) (none-two p) (subst (λ r. p ≤ r) (b .first-low .ensures) (e .if1 .left)) (omega arith) in
+    c .first-high .ensures ∙ among-least p lowBound tableBound two (omega arith) (omega arith) none (b .before .pre .1)
 
 pub least-divisor-spec : {M : Type 1} → statement M
-least-divisor-spec =
-    tie.close
-    (tie.spec
-    Inv-loop
-    μ-loop
-    loop-holds
-    mul-if1
-    rem-if2
-    add-d
-    loop-less
-    loop-again
-    returns
-    returns-2)
+least-divisor-spec = tie.close (tie.spec first-low-requires returns returns-2 first-high-requires returns-3)
