@@ -339,10 +339,11 @@ static uint64_t sum_by_every_number(int side) { return side ? base_sum_by_every_
 static uint64_t library_prime(int side) { return side ? (uint64_t)library->is_prime(p) : sum(0); }
 
 static void judging_rows(const char *name, const struct benchmark *b) {
-    for (size_t i = 0; i < MODULI_COUNT; i++) {
-        p = MODULI[i];
+    static const uint32_t JUDGED[] = {7, 251, 65521, 16777213};
+    for (size_t i = 0; i < sizeof JUDGED / sizeof *JUDGED; i++) {
+        p = JUDGED[i];
         struct medians m = measure(b);
-        printf("| %s | %u | %.2f | %.2f | %.2f |\n", name, p, m.seconds[0] * 1e6, m.seconds[1] * 1e6, m.ratio);
+        printf("| %s | %u | %.1f | %.1f | %.2f |\n", name, p, m.seconds[0] * 1e9, m.seconds[1] * 1e9, m.ratio);
     }
 }
 
@@ -350,11 +351,12 @@ static void judging_rows(const char *name, const struct benchmark *b) {
 static void judging_table(void) {
     static const struct benchmark EVERY = {"sum of two numbers", no_input, sum_by_every_number, no_words, 0, 0};
     static const struct benchmark LIBRARY = {"a test for primes", no_input, library_prime, no_words, 0, 0};
-    printf("\n| To judge p | p | engine, us | other, us | engine / other |\n|---|---|---|---|---|\n");
+    printf("\n| To judge p | p | engine, ns | other, ns | engine / other |\n|---|---|---|---|---|\n");
     judging_rows("C, by the primes up to the root", &JUDGING);
     judging_rows("C, by every number up to the root", &EVERY);
     for (int i = 0; LIBRARIES[i]; i++) {
         library = LIBRARIES[i];
+        library->load(MODULI[0], 1, g, h); /* which starts a library that has to be started */
         judging_rows(library->name, &LIBRARY);
     }
 }
