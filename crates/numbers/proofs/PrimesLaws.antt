@@ -14,14 +14,15 @@ use borrow.Author.Tests.{eqb-true, eqb-false, ltb-true, ltb-false, lt-ltb, le-lt
 use lib.Dec.{eqb, ltb}
 use lib.ListN.{length, drop}
 use lib.Seq.{drop-cons, drop-length}
+use Rattle.algebra.specs.Prime.{Prime}
 use Rattle.numbers.specs.Words.{word, choose, outside}
 use Rattle.numbers.specs.Divisor.{leastDivisor}
-use Rattle.numbers.specs.internal.Limits.{tableBound}
+use Rattle.numbers.specs.internal.Limits.{modulusBound, tableBound}
 use Rattle.numbers.specs.internal.Primes.{keep, allWhere, isPrime, primesBetween, firstAmong, inTable}
 use Rattle.numbers.proofs.WordsLaws.{lt-or-ge, true-false, first-range}
 use Rattle.numbers.proofs.TestsLaws.{both-true}
 use Rattle.numbers.proofs.RefusalsLaws.{inside}
-use Rattle.numbers.proofs.DivisorLaws.{None, none-more, composite-none, divisor-le, trialDivisor, trial-none, trial-divides, least-is, least-none, prime-least, trial-prime}
+use Rattle.numbers.proofs.DivisorLaws.{None, none-two, none-more, composite-none, divisor-le, trialDivisor, trial-none, trial-divides, least-is, least-none, least-prime, prime-least, trial-prime}
 
 -- Lists of the numbers that pass a test: a list begins with d or doesn't, as d passes or not.
 where-step : (f : ℕ → Bool) (d n : ℕ) (Q : List ℕ → Type 0) → (f d ≡ true → Q (d ∷ allWhere f (suc d) n)) → (f d ≡ false → Q (allWhere f (suc d) n))
@@ -104,11 +105,11 @@ among-next p s i l h n =
     among-step p s i l ∙ rw (le-ltb p (word s i * word s i) h, ne-eqb (p % word s i) 0 n, add-one i)
 
 -- Where no number below d divides p, the search among the primes from d on comes to the least divisor; or it comes to p, and no number below the end divides p.
-abbrev Search : ℕ → ℕ → List ℕ → Type 0
-Search p end s = (firstAmong p s ≡ leastDivisor p) ⊎ ((firstAmong p s ≡ p) × None p end)
+abbrev Comes : ℕ → ℕ → List ℕ → Type 0
+Comes p end s = (firstAmong p s ≡ leastDivisor p) ⊎ ((firstAmong p s ≡ p) × None p end)
 
-search-prime : (p d end : ℕ) (s : List ℕ) → 2 ≤ p → 2 ≤ d → None p d → (None p (d + 1) → Search p end s) → Search p end (d ∷ s)
-search-prime p d end s two low none rest =
+comes-prime : (p d end : ℕ) (s : List ℕ) → 2 ≤ p → 2 ≤ d → None p d → (None p (d + 1) → Comes p end s) → Comes p end (d ∷ s)
+comes-prime p d end s two low none rest =
     ⊎-elim (λ (l : p < d * d). inl (among-past p (d ∷ s) 0 (omega arith) l ∙ sym (prime-least (trial-prime p d two l none))))
     (λ (g : d * d ≤ p).
     ⊎-elim (λ (e : p % d ≡ 0). inl (among-found p (d ∷ s) 0 (omega arith) g e ∙ sym (least-is p d low (divisor-le p d two e) e none)))
@@ -118,17 +119,17 @@ search-prime p d end s two low none rest =
     (eq-zero-or-pos (p % d)))
     (lt-or-ge p (d * d))
 
-search : (p d n end : ℕ) → end ≡ d + n → 2 ≤ p → 2 ≤ d → None p d → Search p end (allWhere isPrime d n)
+comes : (p d n end : ℕ) → end ≡ d + n → 2 ≤ p → 2 ≤ d → None p d → Comes p end (allWhere isPrime d n)
 unfolding allWhere firstAmong
-search p d zero end e two low none = inr (refl, subst (None p) (let z : d ≡ end = omega arith in z) none)
-search p d (suc n) end e two low none =
-    let rest : None p (d + 1) → Search p end (allWhere isPrime (suc d) n) = λ h. search p (suc d) n end (omega arith) two (omega arith) (subst (None p) (add-one d) h) in
-    where-step isPrime d n (Search p end)
-    (λ _. search-prime p d end (allWhere isPrime (suc d) n) two low none rest)
+comes p d zero end e two low none = inr (refl, subst (None p) (let z : d ≡ end = omega arith in z) none)
+comes p d (suc n) end e two low none =
+    let rest : None p (d + 1) → Comes p end (allWhere isPrime (suc d) n) = λ h. comes p (suc d) n end (omega arith) two (omega arith) (subst (None p) (add-one d) h) in
+    where-step isPrime d n (Comes p end)
+    (λ _. comes-prime p d end (allWhere isPrime (suc d) n) two low none rest)
     (λ f. rest (none-more p d none (composite-none p d low none (eqb-false (leastDivisor d) d f))))
 
-between : (p a b : ℕ) → 2 ≤ p → 2 ≤ a → a ≤ b → None p a → Search p b (primesBetween a b)
-between p a b two low le none = search p a (b - a) b (omega arith) two low none
+between : (p a b : ℕ) → 2 ≤ p → 2 ≤ a → a ≤ b → None p a → Comes p b (primesBetween a b)
+between p a b two low le none = comes p a (b - a) b (omega arith) two low none
 
 -- So below b times b every answer is the least divisor: a number there that no prime up to its root divides is prime.
 pub among-least : (p a b : ℕ) → 2 ≤ p → 2 ≤ a → a ≤ b → None p a → p < b * b → firstAmong p (primesBetween a b) ≡ leastDivisor p
@@ -143,3 +144,7 @@ among-below p a b two low le none l =
 pub among-none : (p a b : ℕ) → 2 ≤ p → 2 ≤ a → a ≤ b → None p a → p ≤ firstAmong p (primesBetween a b) → b ≤ p → None p b
 among-none p a b two low le none l large =
     ⊎-elim (λ (e : firstAmong p (primesBetween a b) ≡ leastDivisor p). λ k lo hi. least-none p k lo (omega arith)) (λ h. h .1) (between p a b two low le none)
+
+-- And so, of the whole table: a number from 2 to 16,777,215 that no prime of it up to the number's root divides is prime.
+pub table-prime : (p : ℕ) → 2 ≤ p → p < modulusBound → firstAmong p (primesBetween 2 tableBound) ≡ p → Prime p
+table-prime p two small e = least-prime p two (omega (arith, e, among-least p 2 tableBound two (omega arith) (omega arith) (none-two p) small))

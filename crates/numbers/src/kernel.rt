@@ -12,7 +12,7 @@ ghost use Rattle.numbers.specs.internal.Limits.{modulusBound, tableBound
 ghost use Rattle.numbers.specs.internal.Primes.{primesBetween, firstAmong, inTable};
 
 // The first of these numbers that divides p, or p. None is tried from the first on whose square is past p.
-fn first_among(p: u32, primes: &[u32]) -> u32
+fn first_among(p: u32, primes: &[u16]) -> u32
     requires { ⌜ inTable (now primes) ≡ true ⌝ }
     ensures { λ r. ⌜ r ≡ firstAmong p (now (primes .entry)) ⌝ }
 {
@@ -21,7 +21,7 @@ fn first_among(p: u32, primes: &[u32]) -> u32
         if i == primes.len() {
             break p;
         }
-        let q = primes[i];
+        let q = primes[i] as u32;
         if p < q * q {
             break p;
         }

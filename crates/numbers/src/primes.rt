@@ -4,7 +4,7 @@
 pub const LOW_MODULI: u32 = 65536;
 
 // The primes below 256.
-pub const LOW_PRIMES: [u32; 54] = [
+pub const LOW_PRIMES: [u16; 54] = [
     2,
     3,
     5,
@@ -62,7 +62,7 @@ pub const LOW_PRIMES: [u32; 54] = [
 ];
 
 // The primes from 256 up to 4,096.
-pub const HIGH_PRIMES: [u32; 510] = [
+pub const HIGH_PRIMES: [u16; 510] = [
     257,
     263,
     269,

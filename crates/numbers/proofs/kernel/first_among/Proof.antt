@@ -2,10 +2,12 @@
 -- Assumes nothing.
 use borrow.Author.Needs.{needs}
 use mathlib.Core.Path.{_≡_, refl, _∙_, sym}
-use Prim.Native.Nat.{_≤_, _-_}
+use Prim.Native.Nat.{_≤_, _<_, _-_}
 use native.Mathlib.Omega.{arith}
 use native.Mathlib.Nat.{mul-le-mul, le-of-lt}
 use lib.ListN.{length, drop}
+use Rattle.numbers.specs.Words.{word}
+use Rattle.numbers.specs.internal.Limits.{tableBound}
 use Rattle.numbers.specs.internal.Primes.{firstAmong}
 use Rattle.numbers.proofs.PrimesLaws.{in-table-at, among-end, among-past, among-found, among-next}
 use Rattle.numbers.proofs.kernel.first_among.Statement.{statement}
@@ -26,17 +28,18 @@ mul-q c = search needs
 shared-slice-read-q : tie.Need-shared-slice-read-q Inv-loop μ-loop
 shared-slice-read-q c = search needs
 
+-- the number that is tried
+entry : (c : tie.After-shared-slice-known Inv-loop μ-loop) → (2 ≤ word (c .before .before .before .args .primes .now) (c .before .before .loop .i)) × (word (c .before .before .before .args .primes .now) (c .before .before .loop .i) < tableBound)
+entry c = let b = c .before .before in in-table-at (b .before .args .primes .now) (b .before .pre) (b .loop .i) (omega arith)
+
+cast-q : tie.Need-cast-q Inv-loop μ-loop
+cast-q c = record { fits = (let (low, high) = entry c in omega arith) }
+
 mul-if2 : tie.Need-mul-if2 Inv-loop μ-loop
-mul-if2 c =
-    let b = c .before .before in
-    let (low, high) = in-table-at (b .before .args .primes .now) (b .before .pre) (b .loop .i) (omega arith) in
-    record { fits = (let f = mul-le-mul (le-of-lt high) (le-of-lt high) in omega arith) }
+mul-if2 c = record { fits = (let (low, high) = entry c in let f = mul-le-mul (le-of-lt high) (le-of-lt high) in omega arith) }
 
 rem-if3 : tie.Need-rem-if3 Inv-loop μ-loop
-rem-if3 c =
-    let b = c .before .before .before in
-    let (low, high) = in-table-at (b .before .args .primes .now) (b .before .pre) (b .loop .i) (omega arith) in
-    omega arith
+rem-if3 c = let (low, high) = entry (c .before) in omega arith
 
 add-i : tie.Need-add-i Inv-loop μ-loop
 add-i c = search needs
@@ -71,6 +74,7 @@ first-among-spec =
     loop-holds
     mul-q
     shared-slice-read-q
+    cast-q
     mul-if2
     rem-if3
     add-i
