@@ -170,9 +170,35 @@ static void lift(uint32_t p, uint32_t c, const uint32_t *source, uint32_t *low, 
     }
 }
 
+/* Rows worked to k terms: below p in the columns worked, 0 in the others. */
+static bool rows_fit(uint32_t p, const uint32_t *rows, size_t count, size_t n, size_t k) {
+    for (size_t j = 0; j < count; j++, rows += n)
+        if (!all_below(p, rows, k) || !all_below(1, rows + k, n - k)) return false;
+    return true;
+}
+
+/* The source is the product of Y^m + low and high, to so many terms; `lead` as above. */
+static bool split_fits(uint32_t p, const uint32_t *source, const uint32_t *low, size_t m, const uint32_t *high, size_t k, bool lead, size_t n, size_t terms) {
+    for (size_t j = 0; j < m + k; j++)
+        for (size_t t = 0; t < terms; t++) {
+            uint64_t sum = passes(low, m, high, k, n, j, 0, t + 1);
+            if (j >= m) sum += high[(j - m) * n + t];
+            if (lead && j >= k) sum += low[(j - k) * n + t];
+            if (sum % p != source[j * n + t]) return false;
+        }
+    return true;
+}
+
 /* --- the pair --- */
 
-uint64_t base_pair(uint32_t p, uint32_t d, uint32_t n, const uint32_t *f, size_t f_count, uint32_t w, uint32_t *out, size_t out_count) {
+static bool pair_fits(uint32_t p, const uint32_t *f, size_t rows, size_t n, size_t order, size_t h, const uint32_t *out) {
+    if (!rows_fit(p, out, rows, n, h) || out[order * n] == 0) return false;
+    for (size_t j = 0; j < order; j++)
+        if (out[j * n] != 0) return false;
+    return split_fits(p, f, out, order, out + order * n, rows - order, false, n, h);
+}
+
+uint64_t base_pair(uint32_t p, uint32_t d, uint32_t n, const uint32_t *f, size_t f_count, uint32_t h, uint32_t w, uint32_t *out, size_t out_count) {
     uint64_t r = check_modulus(p);
     if (r) return r;
     if (d > 32) return refuse(3, 0);
@@ -184,10 +210,15 @@ uint64_t base_pair(uint32_t p, uint32_t d, uint32_t n, const uint32_t *f, size_t
     size_t order = 0;
     while (order < rows && f[order * n] == 0) order++;
     if (order == rows) return refuse(11, 0);
+    if (h > n || (h > 0 && !pair_fits(p, f, rows, n, order, h, out))) return refuse(13, 0);
     if (w < 1 || w > n) return refuse(14, 0);
-    memset(out, 0, words * sizeof *out);
-    for (size_t j = 0; j < rows; j++) out[j * n] = f[j * n];
-    lift(p, 0, f, out, order, out + order * n, rows - order, false, n, 1, w);
+    if (w < h) return refuse(15, 0);
+    if (h == 0) {
+        memset(out, 0, words * sizeof *out);
+        for (size_t j = 0; j < rows; j++) out[j * n] = f[j * n];
+        h = 1;
+    }
+    lift(p, 0, f, out, order, out + order * n, rows - order, false, n, h, w);
     return order;
 }
 
@@ -239,13 +270,11 @@ static bool roots_fit(const uint32_t *s) {
     return true;
 }
 
-/* Factor and cofactor rows: below p in the columns worked, 0 in the others. The top row of the polynomial: 1, 0, 0, .. */
+/* The words below p, factor and cofactor rows worked to k terms, and the top row of the polynomial 1, 0, 0, .. */
 static bool words_fit(const uint32_t *s) {
-    size_t n = s[2], k = s[3], top = s[6] + s[1] * n;
-    if (!all_below(s[0], s + s[6], (s[1] + 1) * n) || s[top] != 1 || !all_below(1, s + top + 1, n - 1)) return false;
-    for (size_t o = s[7]; o < s[9]; o += n)
-        if (!all_below(s[0], s + o, k) || !all_below(1, s + o + k, n - k)) return false;
-    return true;
+    size_t n = s[2], top = s[6] + s[1] * n;
+    return all_below(s[0], s + s[6], (s[1] + 1) * n) && s[top] == 1 && all_below(1, s + top + 1, n - 1)
+        && rows_fit(s[0], s + s[7], (s[9] - s[7]) / n, n, s[3]);
 }
 
 /* The product of (Y - c)^m over factors first..last - 1; the result is its degree. */
@@ -272,18 +301,8 @@ static bool lines_fit(const uint32_t *s) {
     return true;
 }
 
-/* The source of a link is the product of (Y^m + low) and (Y^k + high), to so many terms. */
 static bool link_fits(const uint32_t *s, struct link l) {
-    size_t n = s[2], m = l.power, k = l.codegree;
-    const uint32_t *low = s + l.low, *high = s + l.high;
-    for (size_t j = 0; j < m + k; j++)
-        for (size_t t = 0; t < s[3]; t++) {
-            uint64_t sum = passes(low, m, high, k, n, j, 0, t + 1);
-            if (j >= m) sum += high[(j - m) * n + t];
-            if (j >= k) sum += low[(j - k) * n + t];
-            if (sum % s[0] != s[l.source + j * n + t]) return false;
-        }
-    return true;
+    return split_fits(s[0], s + l.source, s + l.low, l.power, s + l.high, l.codegree, true, s[2], s[3]);
 }
 
 uint64_t base_sheet_test(const uint32_t *s, size_t count) {

@@ -35,14 +35,14 @@ static void fill(uint32_t *words, size_t count) {
 
 /* Side 0 is the engine, side 1 the C version or a library. */
 static uint32_t g[MAX_N], h[MAX_N], f[(D + 1) * MAX_N], roots[D], powers[D];
-static uint32_t fresh[2][WORDS]; /* what a call begins with, where it works in place: each side's own sheet */
+static uint32_t fresh[2][WORDS]; /* what a call begins with, where it works in place: each side's own sheet or pair */
 static uint32_t out[2][WORDS];
 static size_t words[2]; /* of fresh and out */
 static uint64_t answers[2];
 static uint32_t n;
 
-/* How far a sheet is worked before its call. */
-enum start { ONE_TERM, HALF, FULL };
+/* How far a sheet or a pair is worked before its call; NOTHING where the call begins with none. */
+enum start { NOTHING, ONE_TERM, HALF, FULL };
 
 struct benchmark {
     const char *name;
@@ -69,12 +69,20 @@ static void series_input(const struct benchmark *b) {
     words[0] = words[1] = n;
 }
 
+static uint32_t terms_at(enum start start) { return start == NOTHING ? 0 : start == ONE_TERM ? 1 : start == HALF ? n / 2 : n; }
+
+static uint64_t pair_to(int side, enum start from, enum start to, uint32_t *rows) {
+    return (side ? base_pair : bk_pair)(p, D, n, f, (D + 1) * n, terms_at(from), terms_at(to), rows, words[side]);
+}
+
 static void pair_input(const struct benchmark *b) {
-    (void)b;
     words[0] = words[1] = (D + 1) * n;
     fill(f, words[0]);
     for (size_t j = 0; j < ORDER; j++) f[j * n] = 0;
     f[ORDER * n] = 1 + random_word() % (p - 1);
+    if (b->start == NOTHING) return;
+    for (int side = 0; side < 2; side++)
+        stop_unless(pair_to(side, NOTHING, b->start, fresh[side]) == ORDER, b, "the pair to continue is refused");
 }
 
 static void draw_roots(uint32_t count) {
@@ -97,8 +105,6 @@ static void draw_polynomial(uint32_t count) {
     memset(f + D * n, 0, n * sizeof *f);
     for (uint32_t j = 0; j <= D; j++) f[j * n] = (uint32_t)start[j];
 }
-
-static uint32_t terms_at(enum start start) { return start == ONE_TERM ? 1 : start == HALF ? n / 2 : n; }
 
 /* Each side opens its own sheet of the same polynomial, and works it as far as the call wants it. */
 static void sheet_input(const struct benchmark *b) {
@@ -126,9 +132,9 @@ static uint64_t inverse(int side) {
     return (side ? base_series_inverse : bk_series_inverse)(p, n, g, n, out[side], n);
 }
 
-static uint64_t pair(int side) {
-    return (side ? base_pair : bk_pair)(p, D, n, f, (D + 1) * n, n, out[side], words[side]);
-}
+static uint64_t pair(int side) { return pair_to(side, NOTHING, FULL, out[side]); }
+
+static uint64_t second_half(int side) { return pair_to(side, HALF, FULL, out[side]); }
 
 static uint64_t extend(int side) {
     return (side ? base_sheet_extend : bk_sheet_extend)(out[side], words[side], n);
@@ -151,12 +157,13 @@ static bool same_sheet(void) {
 /* Where a call's answer is all that it gives. */
 static bool no_words(void) { return true; }
 
-static const struct benchmark JUDGING = {"sum of two numbers", no_input, sum, no_words, 0, 0};
+static const struct benchmark JUDGING = {"sum of two numbers", no_input, sum, no_words, 0, NOTHING};
 
 static const struct benchmark BENCHMARKS[] = {
-    {"series product", series_input, product, same_words, 0, 0},
-    {"series inverse", series_input, inverse, same_words, 0, 0},
-    {"pair, D = 32, d = 16", pair_input, pair, same_words, 0, 0},
+    {"series product", series_input, product, same_words, 0, NOTHING},
+    {"series inverse", series_input, inverse, same_words, 0, NOTHING},
+    {"pair, D = 32, d = 16", pair_input, pair, same_words, 0, NOTHING},
+    {"pair continued N/2 to N, D = 32, d = 16", pair_input, second_half, same_words, 0, HALF},
     {"extend 1 to N, 32 simple roots", sheet_input, extend, same_sheet, 32, ONE_TERM},
     {"extend 1 to N, 8 roots of power 4", sheet_input, extend, same_sheet, 8, ONE_TERM},
     {"extend 1 to N, 2 roots of power 16", sheet_input, extend, same_sheet, 2, ONE_TERM},
@@ -188,17 +195,17 @@ static double median(double *samples) {
     return samples[SAMPLES / 2];
 }
 
-/* The sheet is copied back from the saved one before the clock starts, on both sides. */
+/* The sheet, or the pair, is copied back from the saved one before the clock starts, on both sides. */
 static double sample(const struct benchmark *b, int side, int repeats) {
-    if (b->roots) memcpy(out[side], fresh[side], words[side] * sizeof **out);
+    if (b->start != NOTHING) memcpy(out[side], fresh[side], words[side] * sizeof **out);
     double start = now();
     for (int i = 0; i < repeats; i++) answers[side] = b->call(side);
     return (now() - start) / repeats;
 }
 
-/* Extend changes what it is given, so a sample of it is one call. */
+/* What is worked further is changed by its call, so a sample of it is one call. */
 static int repeats_for(const struct benchmark *b) {
-    if (b->call == extend) return 1;
+    if (b->start == ONE_TERM || b->start == HALF) return 1;
     double one = sample(b, 0, 1);
     return one < SAMPLE_SECONDS ? (int)(SAMPLE_SECONDS / one) + 1 : 1;
 }
@@ -283,8 +290,8 @@ static bool same_as_library(void) {
 }
 
 static const struct benchmark NEAREST[] = {
-    {"series product", series_input, library_product, same_as_library, 0, 0},
-    {"series inverse", series_input, library_inverse, same_as_library, 0, 0},
+    {"series product", series_input, library_product, same_as_library, 0, NOTHING},
+    {"series inverse", series_input, library_inverse, same_as_library, 0, NOTHING},
 };
 
 static void library_rows(void) {
@@ -348,8 +355,8 @@ static void short_rows(const struct benchmark *b, const char *other) {
 
 /* The engine against C, and its sum of two numbers against the libraries' tests for primes, which answer 1 as well. */
 static void short_table(void) {
-    static const struct benchmark EVERY = {"sum of two numbers", no_input, sum_by_every_number, no_words, 0, 0};
-    static const struct benchmark LIBRARY = {"sum of two numbers", no_input, library_prime, no_words, 0, 0};
+    static const struct benchmark EVERY = {"sum of two numbers", no_input, sum_by_every_number, no_words, 0, NOTHING};
+    static const struct benchmark LIBRARY = {"sum of two numbers", no_input, library_prime, no_words, 0, NOTHING};
     printf("\n| The shortest calls | other | p | engine, ns | other, ns | engine / other |\n|---|---|---|---|---|---|\n");
     n = SHORT_N;
     short_rows(&BENCHMARKS[0], "C, N = 8");

@@ -40,7 +40,7 @@ enum bk_refusal {
     BK_SHORT = 10,        /* the output is too short; detail: the words (or bytes) needed */
     BK_FLAT = 11,         /* pair: f has no row that is other than 0 at X = 0 */
     BK_NO_UNIT = 12,      /* the divisor begins with 0; to invert: a number that is 0 */
-    BK_SPOILED = 13,      /* the words are no sound sheet; or, continuing a pair, not its first h terms followed by zeros */
+    BK_SPOILED = 13,      /* the words are no sound sheet; or, continuing a pair, not its first h terms followed by zeros, or h is above n */
     BK_BEYOND = 14,       /* the terms wanted are 0 or more than n */
     BK_BEHIND = 15,       /* the terms wanted are fewer than those there */
     BK_NO_FACTOR = 16     /* there is no factor of this index */
@@ -69,9 +69,9 @@ uint64_t bk_rows_product(uint32_t p, uint32_t d1, uint32_t d2, uint32_t n, const
 uint64_t bk_rows_shift(uint32_t p, uint32_t d, uint32_t n, const uint32_t *f, size_t f_count, uint32_t c, uint32_t *out, size_t out_count);
 
 /* The Weierstrass pair f = P * A modulo X^w, in d + 1 rows: P's below its leading 1, then A's, columns from w up 0. The answer is the order of f, the
- * degree of P. To continue, `out` holds the pair of f to h terms; only columns h..w-1 change. */
-uint64_t bk_pair(uint32_t p, uint32_t d, uint32_t n, const uint32_t *f, size_t f_count, uint32_t w, uint32_t *out, size_t out_count);
-uint64_t bk_pair_continue(uint32_t p, uint32_t d, uint32_t n, const uint32_t *f, size_t f_count, uint32_t h, uint32_t w, uint32_t *out, size_t out_count);
+ * degree of P. With h = 0 it starts: whatever `out` holds is ignored, and all its rows are written. With h >= 1 it goes on from the pair of f to h terms,
+ * which `out` holds: only columns h..w-1 change. */
+uint64_t bk_pair(uint32_t p, uint32_t d, uint32_t n, const uint32_t *f, size_t f_count, uint32_t h, uint32_t w, uint32_t *out, size_t out_count);
 
 /* A factor sheet with r factors takes exactly 10 + 2r + (2d + 1)n words: ten header words (p, d, n, terms worked, r, offsets of roots, polynomial and
  * factors, and twice the total), then root and power of each factor, the d + 1 rows of the polynomial, and the d rows of the factors below their leading 1,
@@ -146,11 +146,8 @@ static inline uint64_t bk_rows_product_any(uint32_t p, uint32_t d1, uint32_t d2,
 static inline uint64_t bk_rows_shift_any(uint32_t p, uint32_t d, uint32_t n, const uint32_t *f, size_t f_count, uint32_t c, uint32_t *out, size_t out_count) {
     return bk_rows_shift(p, d, n, bk_words_in(f, f_count), f_count, c, bk_words_out(out, out_count), out_count);
 }
-static inline uint64_t bk_pair_any(uint32_t p, uint32_t d, uint32_t n, const uint32_t *f, size_t f_count, uint32_t w, uint32_t *out, size_t out_count) {
-    return bk_pair(p, d, n, bk_words_in(f, f_count), f_count, w, bk_words_out(out, out_count), out_count);
-}
-static inline uint64_t bk_pair_continue_any(uint32_t p, uint32_t d, uint32_t n, const uint32_t *f, size_t f_count, uint32_t h, uint32_t w, uint32_t *out, size_t out_count) {
-    return bk_pair_continue(p, d, n, bk_words_in(f, f_count), f_count, h, w, bk_words_out(out, out_count), out_count);
+static inline uint64_t bk_pair_any(uint32_t p, uint32_t d, uint32_t n, const uint32_t *f, size_t f_count, uint32_t h, uint32_t w, uint32_t *out, size_t out_count) {
+    return bk_pair(p, d, n, bk_words_in(f, f_count), f_count, h, w, bk_words_out(out, out_count), out_count);
 }
 static inline uint64_t bk_sheet_open_any(uint32_t p, uint32_t d, uint32_t n, const uint32_t *f, size_t f_count, const uint32_t *roots, size_t roots_count, uint32_t *out, size_t out_count) {
     return bk_sheet_open(p, d, n, bk_words_in(f, f_count), f_count, bk_words_in(roots, roots_count), roots_count, bk_words_out(out, out_count), out_count);
@@ -187,7 +184,6 @@ static inline uint64_t bk_list_any(const uint8_t *job, size_t job_count, uint8_t
 #define bk_rows_product bk_rows_product_any
 #define bk_rows_shift bk_rows_shift_any
 #define bk_pair bk_pair_any
-#define bk_pair_continue bk_pair_continue_any
 #define bk_sheet_open bk_sheet_open_any
 #define bk_sheet_extend bk_sheet_extend_any
 #define bk_sheet_test bk_sheet_test_any

@@ -1,4 +1,5 @@
-//! Document 01's examples, by the words that it prints, and what document 02 changes in them: the sheet that F-8 makes smaller, the moduli of F-2.
+//! Document 01's examples, by the words that it prints, and what document 02 changes in them: the sheet that F-8 makes smaller, the moduli of F-2, the one call for
+//! the pair of F-4.
 
 use crate::random::Random;
 use crate::report::{engine, Outcome, Report};
@@ -49,7 +50,7 @@ fn three_roots(report: &mut Report) {
 
 fn one_pair(report: &mut Report, what: &str, d: u32, n: u32, f: &[u32], order: u32, expected: &[u32]) {
     let mut out = vec![9; f.len()];
-    example(report, what, engine(pair::pair(5, d, n, f, n, &mut out)), Ok(order));
+    example(report, what, engine(pair::pair(5, d, n, f, 0, n, &mut out)), Ok(order));
     example(report, what, &out[..], expected);
 }
 

@@ -2,14 +2,14 @@
 
 use crate::polynomials;
 use crate::random::Random;
-use crate::report::{engine, second, Outcome, Report};
+use crate::report::{engine, every_set, second, Fault, Outcome, Report};
 use crate::sheets::{extend, opened};
 use bopkheul::{sheet as e, Sheet};
 use second::sheet as s;
 use std::ptr;
 
 /// What reading a factor and passing it on are given; each call takes what it needs.
-#[derive(Clone)]
+#[derive(Clone, Debug)]
 struct Case {
     sheet: Vec<u32>,
     i: u32,
@@ -109,21 +109,7 @@ pub fn factors(random: &mut Random, report: &mut Report, sheet: &[u32]) {
     report.kind("reading: a factor's part as a row polynomial");
 }
 
-/// A refusal, by number and detail, and what brings it about in a good case.
-type Fault<'a> = ((u32, u32), &'a dyn Fn(&mut Case));
-
-/// Every set of the faults, which stand in the order in which they are judged: the first of a set is given. None is accepted.
-fn every_set(report: &mut Report, call: Call, good: &Case, accepted: u32, faults: &[Fault]) {
-    for set in 0..1 << faults.len() {
-        let chosen = || faults.iter().enumerate().filter(|(l, _)| set >> l & 1 == 1).map(|(_, fault)| fault);
-        let mut case = good.clone();
-        chosen().for_each(|(_, put)| put(&mut case));
-        let expected = chosen().next().map_or(Ok(accepted), |(refusal, _)| Err(*refusal));
-        let outcome = call(report, &case);
-        report.expect(outcome == expected, &format!("the outcome is {outcome:?} and not {expected:?} for factor {} of {:?}", case.i, case.sheet));
-    }
-    report.kind("reading: every set of refusals at once");
-}
+const EVERY_SET: &str = "reading: every set of refusals at once";
 
 /// Each refusal by what is nearest to a case that passes: a word too few or too many, an index, a bound or a number one too large.
 fn boundaries(random: &mut Random, report: &mut Report, sheet: &[u32]) {
@@ -154,9 +140,9 @@ fn boundaries(random: &mut Random, report: &mut Report, sheet: &[u32]) {
     let short = |case: &mut Case| case.out.truncate(case.out.len() - 1);
 
     let (position, last) = ((part + at) as u32, part as u32);
-    let reads: [Fault; 3] = [((10, 4), &short), ((13, 0), &spoiled), ((16, 0), &no_factor)];
-    every_set(report, read, &with_room(random, &good, 4), 4, &reads);
-    let products: [Fault; 6] = [
+    let reads: [Fault<Case>; 3] = [((10, 4), &short), ((13, 0), &spoiled), ((16, 0), &no_factor)];
+    every_set(report, EVERY_SET, read, &with_room(random, &good, 4), 4, &reads);
+    let products: [Fault<Case>; 6] = [
         ((13, 0), &spoiled),
         ((16, 0), &no_factor),
         ((3, 0), &degree),
@@ -164,9 +150,9 @@ fn boundaries(random: &mut Random, report: &mut Report, sheet: &[u32]) {
         ((6, position), &unreduced),
         ((10, product as u32), &short),
     ];
-    every_set(report, times, &with_room(random, &good, product), product as u32, &products);
-    let shifts: [Fault; 4] = [((13, 0), &spoiled), ((16, 0), &no_factor), ((6, last), &shifted), ((10, last), &short)];
-    every_set(report, shift, &with_room(random, &good, part), last, &shifts);
+    every_set(report, EVERY_SET, times, &with_room(random, &good, product), product as u32, &products);
+    let shifts: [Fault<Case>; 4] = [((13, 0), &spoiled), ((16, 0), &no_factor), ((6, last), &shifted), ((10, last), &short)];
+    every_set(report, EVERY_SET, shift, &with_room(random, &good, part), last, &shifts);
 }
 
 pub fn run(random: &mut Random, report: &mut Report) {

@@ -41,7 +41,7 @@ const ROWS: &[u32] = &[1, 2, 3, 4, 5, 6, 10];
 /// Not a call of its own: what the lines say that `list` writes, which is a refusal's number or a listing.
 pub const LINE: &str = "list's line";
 
-pub const OPERATIONS: [Operation; 24] = [
+pub const OPERATIONS: [Operation; 23] = [
     operation("sum", NUMBER),
     operation("difference", NUMBER),
     operation("product", NUMBER),
@@ -55,8 +55,7 @@ pub const OPERATIONS: [Operation; 24] = [
     operation("rows difference", ROWS),
     operation("rows product", ROWS),
     operation("rows shift", ROWS),
-    operation("pair", &[1, 2, 3, 4, 5, 6, 10, 11, 14]),
-    operation("pair continue", &[1, 2, 3, 4, 5, 6, 10, 11, 13, 14, 15]),
+    operation("pair", &[1, 2, 3, 4, 5, 6, 10, 11, 13, 14, 15]),
     operation("sheet open", &[1, 2, 3, 4, 5, 6, 7, 8, 9, 10]),
     operation("sheet extend", &[13, 14, 15]),
     operation("sheet test", &[]),
@@ -69,7 +68,7 @@ pub const OPERATIONS: [Operation; 24] = [
 ];
 
 /// Kinds of inputs: each must have come up.
-pub const KINDS: [&str; 71] = [
+pub const KINDS: [&str; 84] = [
     "document 01's examples",
     "the sheet of document 02's F-8",
     "the moduli of document 02's F-2",
@@ -84,10 +83,23 @@ pub const KINDS: [&str; 71] = [
     "pair: order 0",
     "pair: order between",
     "pair: order D",
+    "pair: D is above p",
     "pair: worked in several goes",
-    "pair: f changed in a later column only",
+    "pair: started over any words",
+    "pair: started over words below p",
+    "pair: started over the pair of another polynomial",
+    "pair: started over its own terms",
+    "pair: above 16 terms, four rows or more on either side, started",
+    "pair: above 16 terms, four rows or more on either side, h below 16",
+    "pair: above 16 terms, four rows or more on either side, h = 16",
+    "pair: above 16 terms, four rows or more on either side, h above 16",
+    "pair: h above N",
+    "pair: f changed in a column below h",
+    "pair: f changed from column h up only",
     "pair: a word below h changed",
     "pair: a word from h up changed",
+    "pair: every set of refusals at once, started",
+    "pair: every set of refusals at once, continued",
     "sheet: opened into T − 1 words and into T",
     "sheet: worked in several goes",
     "sheet: only its first words lent",
@@ -225,6 +237,29 @@ impl Report {
         println!("\n{} calls compared, no difference.", calls.map(|(_, count)| count).sum::<u64>());
         complete
     }
+}
+
+/// A refusal, by number and detail, and what brings it about in a good case.
+pub type Fault<'a, C> = ((u32, u32), &'a dyn Fn(&mut C));
+
+/// Every set of the faults, which stand in the order in which they are judged: the first of a set is given. None is accepted.
+pub fn every_set<C: Clone + Debug>(
+    report: &mut Report,
+    kind: &'static str,
+    call: fn(&mut Report, &C) -> Outcome,
+    good: &C,
+    accepted: u32,
+    faults: &[Fault<C>],
+) {
+    for set in 0..1 << faults.len() {
+        let chosen = || faults.iter().enumerate().filter(|(l, _)| set >> l & 1 == 1).map(|(_, fault)| fault);
+        let mut case = good.clone();
+        chosen().rev().for_each(|(_, put)| put(&mut case)); // the first comes last, and so holds
+        let expected = chosen().next().map_or(Ok(accepted), |(refusal, _)| Err(*refusal));
+        let outcome = call(report, &case);
+        report.expect(outcome == expected, &format!("the outcome is {outcome:?} and not {expected:?} of {case:?}"));
+    }
+    report.kind(kind);
 }
 
 fn differ<W: Debug>(operation: &str, input: &str, lent: &[W], how: &str) -> ! {

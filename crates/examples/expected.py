@@ -106,27 +106,21 @@ def first(p,D,n,f,buf):
     if r: return r
     if len(buf)<(D+1)*n: return (10,(D+1)*n)
     if all(f[j*n]==0 for j in range(D+1)): return (11,0)
-def pair(p,D,n,f,w,buf):
-    r=first(p,D,n,f,buf) or (None if 1<=w<=n else (14,0))
-    if r: say(r,0,None,buf)
-    else:
-        d,a=thepair(p,D,n,f,w); say(None,d,a,buf)
-def cont(p,D,n,f,h,w,buf):
+def pair(p,D,n,f,h,w,buf):
     r=first(p,D,n,f,buf)
-    if not r and (not 1<=h<=n or buf[:(D+1)*n]!=thepair(p,D,n,f,h)[1]): r=(13,0)
+    if not r and h and (h>n or buf[:(D+1)*n]!=thepair(p,D,n,f,h)[1]): r=(13,0)
     r=r or (None if 1<=w<=n else (14,0)) or ((15,0) if w<h else None)
     if r: say(r,0,None,buf)
     else:
         d,a=thepair(p,D,n,f,w); say(None,d,a,buf)
 buf=[9]*13
 f=[0,1,0,0,1,0,0,0,1,0,0,0]
-pair(5,2,4,f,4,buf);pair(5,2,4,f,2,buf);cont(5,2,4,f,2,4,buf)
-cont(5,2,4,f,4,3,buf);cont(5,2,4,f,4,5,buf);cont(5,2,4,f,3,4,buf);cont(5,2,4,f,0,4,buf)
+for h,w in ((0,4),(0,2),(2,4),(4,3),(4,5),(4,0),(3,4),(5,4),(4,4)): pair(5,2,4,f,h,w,buf)
 flat=[0,1,0,0,0,3,0,0,0,0,0,2]
-pair(5,2,4,flat,0,buf);pair(5,2,4,flat,0,[9]*11)
-pair(5,2,4,[0,2,1,0,0,3,4,1,3,1,0,2],4,buf);pair(5,0,4,[3,1,4,1],4,buf);pair(5,2,4,[0,1,2,0,1,0,3,1,0,1,0,4],4,buf)
+pair(5,2,4,flat,0,0,buf);pair(5,2,4,flat,0,0,[9]*11)
+pair(5,2,4,[0,2,1,0,0,3,4,1,3,1,0,2],0,4,buf);pair(5,0,4,[3,1,4,1],0,4,buf);pair(5,2,4,[0,1,2,0,1,0,3,1,0,1,0,4],0,4,buf)
 f=[0]*768; f[1]=f[256]=f[259]=f[512]=f[513]=1
-pair(2,2,256,f,256,[9]*769)
+pair(2,2,256,f,0,256,[9]*769)
 
 # sheets: the factors by a linear system for all lower rows of all factors, column by column
 def polymul(p,a,b):

@@ -17,7 +17,7 @@ static void words_needed(void) {
     const uint32_t f[(D + 1) * N] = {6, 6, [D * N] = 1}; /* Y^2 - 1 - X */
     const uint32_t roots[] = {1, 6};
     say("open", bk_sheet_open(P, D, N, f, (D + 1) * N, roots, 2, NULL, 0));
-    say("pair", bk_pair(P, D, N, f, (D + 1) * N, N, NULL, 0));
+    say("pair", bk_pair(P, D, N, f, (D + 1) * N, 0, N, NULL, 0));
     say("open, no roots", bk_sheet_open(P, D, N, f, (D + 1) * N, NULL, 0, NULL, 0));
 }
 
@@ -31,8 +31,7 @@ static void nothing_given(void) {
     say("rows difference", bk_rows_difference(P, D, N, NULL, 0, NULL, 0, NULL, 0));
     say("rows product", bk_rows_product(P, D, D, N, NULL, 0, NULL, 0, NULL, 0));
     say("rows shift", bk_rows_shift(P, D, N, NULL, 0, 1, NULL, 0));
-    say("pair", bk_pair(P, D, N, NULL, 0, N, NULL, 0));
-    say("pair continue", bk_pair_continue(P, D, N, NULL, 0, 1, N, NULL, 0));
+    say("pair", bk_pair(P, D, N, NULL, 0, 0, N, NULL, 0));
     say("sheet open", bk_sheet_open(P, D, N, NULL, 0, NULL, 0, NULL, 0));
     say("sheet extend", bk_sheet_extend(NULL, 0, N));
     say("sheet test", bk_sheet_test(NULL, 0));

@@ -1,5 +1,5 @@
-//! Document 01 once more, with document 02's F-8 (the sheet) and F-2 (moduli of three bytes, wide job files): written from their text alone and by other methods than the engine's, so that a slip
-//! of one is not a slip of both.
+//! Document 01 once more, with document 02's F-8 (the sheet), F-2 (moduli of three bytes, wide job files) and F-4 (one call for the pair): written from their text alone
+//! and by other methods than the engine's, so that a slip of one is not a slip of both.
 //!
 //! | | engine | here |
 //! |---|---|---|
@@ -8,7 +8,8 @@
 //! | inverse of a series | column after column | Newton's doubling |
 //! | shift | weights from binomials | Horner over row polynomials |
 //! | powers of the roots | repeated division by Y − c | the order of f(Y + c), then multiplied back |
-//! | pair, factors | two-factor splits, for the factors along a tree, each by synthetic division | one linear system for each column, over all unknowns at once |
+//! | pair | column after column, in place | Newton's doubling, from f alone; what stands in the output is compared with that |
+//! | factors | two-factor splits along a tree, each by synthetic division | one linear system for each column, over all unknowns at once |
 //! | a factor's rows | a part of the sheet, by its place | the sheet taken apart, row after row |
 //! | soundness | splits once more and compares | the definitions: everything is multiplied out |
 //!

@@ -1,20 +1,74 @@
 //! The Weierstrass pair: f = P·A modulo X^k, P monic of degree d and Y^d at X = 0, A of m + 1 rows with a unit for row 0.
 //!
-//! Column t ≥ 1 of P and A is found from the columns before it by one linear system. With P = Y^d and A = A_0 at X = 0, the unknown
-//! columns δP (d numbers) and δA (m + 1 numbers) satisfy δP·A_0 + Y^d·δA = column t of f less what the earlier columns give.
+//! By Newton: if P is right to k terms, then f divided by it is f = P·A + R with R = 0 to k terms; and if V·A = 1 modulo P to k terms, then P + (V·R modulo P)
+//! is right to 2k terms. V goes from k to 2k terms as 2V − V²·A modulo P.
 
-use crate::field::sub;
-use crate::linear::{apply, invert, Matrix};
-use crate::polynomial::{at_zero, column, constant, cut, polynomial, product, product_column, set_column, truncated, words, Polynomial};
-use crate::refusal::{beyond, composite, degree, judge, length, modulus_range, short, terms, unreduced, when, Answer, Refusal};
+use crate::field::{add, sub};
+use crate::polynomial::{constant, entrywise, polynomial, product, series_inverse, series_product, truncated, words, Polynomial, Series};
+use crate::refusal::{beyond, composite, degree, judge, length, modulus_range, short, terms, unreduced, when, Answer};
 
 /// The least row that is not 0 at X = 0.
 fn order(f: &[u32], n: usize) -> Option<usize> {
     f.chunks(n).position(|row| row[0] != 0)
 }
 
-/// Rows 1 to 11.
-fn judged(p: u32, d: u32, n: u32, f: &[u32], out: &[u32]) -> Result<(), Refusal> {
+/// Quotient and remainder by a monic polynomial.
+fn divide(p: u64, f: &[Series], monic: &[Series]) -> (Polynomial, Polynomial) {
+    let degree = monic.len() - 1;
+    let (mut quotient, mut rest) = (Vec::new(), f.to_vec());
+    while rest.len() > degree {
+        let top = rest.pop().expect("a row more than the degree");
+        let from = rest.len() - degree;
+        for (row, lower) in rest[from..].iter_mut().zip(monic) {
+            *row = entrywise(sub, p, row, &series_product(p, &top, lower));
+        }
+        quotient.insert(0, top);
+    }
+    (quotient, rest)
+}
+
+/// P of f, to as many terms as f has.
+fn monic_part(p: u64, f: &[Series], order: usize) -> Polynomial {
+    if order == 0 {
+        return vec![constant(1, f[0].len())];
+    }
+    // at X = 0 P is Y^d, and V the inverse of A as a series in Y
+    let unit: Series = (0..order).map(|j| f.get(order + j).map_or(0, |row| row[0])).collect();
+    let mut inverse: Polynomial = series_inverse(p, &unit).into_iter().map(|c| vec![c]).collect();
+    let mut monic: Polynomial = (0..=order).map(|j| vec![(j == order) as u64]).collect();
+    while monic[0].len() < f[0].len() {
+        let k = monic[0].len();
+        let (unit, _) = divide(p, &truncated(f, k), &monic);
+        let (_, less) = divide(p, &product(p, &product(p, &inverse, &inverse), &unit), &monic);
+        for (row, less) in inverse.iter_mut().zip(&less) {
+            *row = entrywise(sub, p, &entrywise(add, p, row, row), less);
+        }
+        let k = f[0].len().min(2 * k);
+        monic.iter_mut().chain(&mut inverse).for_each(|row| row.resize(k, 0));
+        let (_, rest) = divide(p, &truncated(f, k), &monic);
+        let (_, more) = divide(p, &product(p, &inverse, &rest), &monic);
+        for (row, more) in monic.iter_mut().zip(&more) {
+            *row = entrywise(add, p, row, more);
+        }
+    }
+    monic
+}
+
+/// The words of the pair to k terms: P's rows below its leading 1, then A's, and 0 from column k on.
+fn pair_words(p: u32, n: usize, f: &[u32], k: usize) -> Vec<u32> {
+    let (p, order) = (p as u64, order(f, n).expect("not flat"));
+    let f = truncated(&polynomial(f, n), k);
+    let mut rows = monic_part(p, &f, order);
+    let (unit, _) = divide(p, &f, &rows);
+    rows.pop();
+    rows.extend(unit);
+    rows.iter_mut().for_each(|row| row.resize(n, 0));
+    words(&rows)
+}
+
+/// The pair to w terms, of which the first h stand in `out`; for h = 0 `out` has anything. The answer is the order.
+pub fn pair(p: u32, d: u32, n: u32, f: &[u32], h: u32, w: u32, out: &mut [u32]) -> Answer {
+    let width = n as usize;
     judge(&[
         (1, &|| modulus_range(p)),
         (2, &|| composite(p)),
@@ -23,94 +77,11 @@ fn judged(p: u32, d: u32, n: u32, f: &[u32], out: &[u32]) -> Result<(), Refusal>
         (5, &|| length(f, d as u64 + 1, n)),
         (6, &|| unreduced(p, &[f])),
         (10, &|| short(out, f.len())),
-        (11, &|| when(order(f, n as usize).is_none())),
-    ])
-}
-
-/// P, with its leading 1, and A.
-struct Pair {
-    monic: Polynomial,
-    unit: Polynomial,
-}
-
-/// The pair that d + 1 rows hold, the first `order` of them being P's.
-fn read(rows: &[u32], n: usize, order: usize) -> Pair {
-    let mut monic = polynomial(rows, n);
-    let unit = monic.split_off(order);
-    monic.push(constant(1, n));
-    Pair { monic, unit }
-}
-
-fn write(pair: &Pair, out: &mut [u32]) {
-    let order = pair.monic.len() - 1;
-    let all = [words(&pair.monic[..order]), words(&pair.unit)].concat();
-    out[..all.len()].copy_from_slice(&all);
-}
-
-/// Unknown i stands for Y^i in δP for i < order, and for Y^(i − order) in δA from there on: its matrix column is what it adds to f.
-fn system(p: u64, f: &Polynomial, order: usize) -> Matrix {
-    let size = f.len();
-    let unit = column(&at_zero(&f[order..]), 0);
-    let mut matrix = vec![vec![0; size]; size];
-    for i in 0..size {
-        if i < order {
-            unit.iter().enumerate().for_each(|(j, &a)| matrix[i + j][i] = a % p);
-        } else {
-            matrix[i][i] = 1;
-        }
-    }
-    matrix
-}
-
-/// Columns from..to − 1.
-fn lift(p: u64, f: &Polynomial, pair: &mut Pair, from: usize, to: usize) {
-    let order = pair.monic.len() - 1;
-    let solver = invert(p, &system(p, f, order)).expect("A is a unit at X = 0, Y = 0");
-    for t in from..to {
-        let known = product_column(p, &pair.monic, &pair.unit, t);
-        let missing: Vec<u64> = column(f, t).iter().zip(&known).map(|(&a, &b)| sub(p, a, b)).collect();
-        let solved = apply(p, &solver, &missing);
-        set_column(&mut pair.monic, t, &solved[..order]);
-        set_column(&mut pair.unit, t, &solved[order..]);
-    }
-}
-
-/// The conditions of the definition, modulo X^k, and 0 from column k on.
-fn is_pair(p: u32, n: usize, f: &[u32], k: usize, rows: &[u32]) -> bool {
-    let order = order(f, n).expect("not flat");
-    let pair = read(rows, n, order);
-    rows.iter().all(|&word| word < p)
-        && pair.monic[..order].iter().all(|row| row[0] == 0)
-        && pair.unit[0][0] != 0
-        && cut(&polynomial(rows, n), k) == polynomial(rows, n)
-        && product(p as u64, &truncated(&pair.monic, k), &truncated(&pair.unit, k)) == truncated(&polynomial(f, n), k)
-}
-
-/// The pair to w terms; the answer is the order.
-pub fn pair(p: u32, d: u32, n: u32, f: &[u32], w: u32, out: &mut [u32]) -> Answer {
-    judged(p, d, n, f, out)?;
-    judge(&[(14, &|| beyond(w, n))])?;
-    let n = n as usize;
-    let order = order(f, n).expect("not flat");
-    let given = polynomial(f, n);
-    let mut pair = read(&words(&cut(&given, 1)), n, order);
-    lift(p as u64, &given, &mut pair, 1, w as usize);
-    write(&pair, out);
-    Ok(order as u32)
-}
-
-/// The pair to w terms, of which the first h stand in `out`; the answer is the order.
-pub fn pair_continue(p: u32, d: u32, n: u32, f: &[u32], h: u32, w: u32, out: &mut [u32]) -> Answer {
-    judged(p, d, n, f, out)?;
-    let width = n as usize;
-    judge(&[
-        (13, &|| when(!(1..=n).contains(&h) || !is_pair(p, width, f, h as usize, &out[..f.len()]))),
+        (11, &|| when(order(f, width).is_none())),
+        (13, &|| when(h > n || h > 0 && out[..f.len()] != pair_words(p, width, f, h as usize))),
         (14, &|| beyond(w, n)),
         (15, &|| when(w < h)),
     ])?;
-    let order = order(f, width).expect("not flat");
-    let mut pair = read(&out[..f.len()], width, order);
-    lift(p as u64, &polynomial(f, width), &mut pair, h as usize, w as usize);
-    write(&pair, out);
-    Ok(order as u32)
+    out[..f.len()].copy_from_slice(&pair_words(p, width, f, w as usize));
+    Ok(order(f, width).expect("not flat") as u32)
 }

@@ -1,4 +1,4 @@
-//! The examples of document 01, the sheet of F-8, and F-2's moduli and job files.
+//! The examples of document 01, the sheet of F-8, F-2's moduli and job files, and F-4's one call for the pair.
 
 use second::{listing, numbers, pair, sheet, Refusal};
 
@@ -34,17 +34,38 @@ fn a_double_root_modulo_2() {
     assert_eq!(&out[22..28], &[0, 1, 0, 0, 1, 0]);
 }
 
+/// X + Y + Y².
+const QUADRATIC: [u32; 12] = [0, 1, 0, 0, 1, 0, 0, 0, 1, 0, 0, 0];
+
 #[test]
 fn pairs() {
     let mut out = [9; 12];
-    assert_eq!(pair::pair(5, 2, 4, &[0, 1, 0, 0, 1, 0, 0, 0, 1, 0, 0, 0], 4, &mut out), Ok(1));
+    assert_eq!(pair::pair(5, 2, 4, &QUADRATIC, 0, 4, &mut out), Ok(1));
     assert_eq!(out, [0, 1, 1, 2, 1, 4, 4, 3, 1, 0, 0, 0]);
     let mut out = [9; 4];
-    assert_eq!(pair::pair(5, 1, 2, &[0, 1, 2, 0], 2, &mut out), Ok(1));
+    assert_eq!(pair::pair(5, 1, 2, &[0, 1, 2, 0], 0, 2, &mut out), Ok(1));
     assert_eq!(out, [0, 3, 2, 0]);
     let mut out = [9; 2];
-    assert_eq!(pair::pair(5, 1, 1, &[1, 1], 1, &mut out), Ok(0));
+    assert_eq!(pair::pair(5, 1, 1, &[1, 1], 0, 1, &mut out), Ok(0));
     assert_eq!(out, [1, 1]);
+}
+
+/// A pair to two terms, which h = 0 starts and only h = 2 can continue.
+#[test]
+fn a_pair_is_started_and_continued() {
+    let mut out = [9; 13];
+    let mut call = |h, w| pair::pair(5, 2, 4, &QUADRATIC, h, w, &mut out);
+    assert_eq!(call(0, 5), refused(14, 0));
+    assert_eq!(call(0, 2), Ok(1));
+    assert_eq!(call(1, 4), refused(13, 0));
+    assert_eq!(call(3, 4), refused(13, 0));
+    assert_eq!(call(5, 0), refused(13, 0));
+    assert_eq!(call(2, 0), refused(14, 0));
+    assert_eq!(call(2, 1), refused(15, 0));
+    assert_eq!(call(2, 2), Ok(1));
+    assert_eq!(out, [0, 1, 0, 0, 1, 4, 0, 0, 1, 0, 0, 0, 9]);
+    assert_eq!(pair::pair(5, 2, 4, &QUADRATIC, 2, 4, &mut out), Ok(1));
+    assert_eq!(out, [0, 1, 1, 2, 1, 4, 4, 3, 1, 0, 0, 0, 9]);
 }
 
 #[test]
@@ -68,7 +89,8 @@ fn wide_job(fields: &[u32]) -> Vec<u8> {
 #[test]
 fn a_wide_job() {
     let fields = [16777213, 2, 3, 2, 26, 34, 1, 16777212, 16777212, 16777212, 0, 0, 0, 0, 1, 0, 0];
-    let expected = "mod 16777213 terms 3 degree 2 factors 2\nroot 1 power 1\nY^0: 16777212 8388606 6291455\nroot 16777212 power 1\nY^0: 1 8388607 10485758\n";
+    let expected =
+        "mod 16777213 terms 3 degree 2 factors 2\nroot 1 power 1\nY^0: 16777212 8388606 6291455\nroot 16777212 power 1\nY^0: 1 8388607 10485758\n";
     assert_eq!(listing::text(&wide_job(&fields)), expected);
     let with = |at: usize, value: u32| {
         let mut changed = fields;

@@ -23,8 +23,7 @@ extern "C" {
     pub fn bk_rows_product(p: u32, d1: u32, d2: u32, n: u32, f: Words, f_count: usize, g: Words, g_count: usize, out: Out, out_count: usize) -> u64;
     pub fn bk_rows_shift(p: u32, d: u32, n: u32, f: Words, f_count: usize, c: u32, out: Out, out_count: usize) -> u64;
 
-    pub fn bk_pair(p: u32, d: u32, n: u32, f: Words, f_count: usize, w: u32, out: Out, out_count: usize) -> u64;
-    pub fn bk_pair_continue(p: u32, d: u32, n: u32, f: Words, f_count: usize, h: u32, w: u32, out: Out, out_count: usize) -> u64;
+    pub fn bk_pair(p: u32, d: u32, n: u32, f: Words, f_count: usize, h: u32, w: u32, out: Out, out_count: usize) -> u64;
 
     pub fn bk_sheet_open(p: u32, d: u32, n: u32, f: Words, f_count: usize, roots: Words, roots_count: usize, out: Out, out_count: usize) -> u64;
     pub fn bk_sheet_extend(sheet: Out, sheet_count: usize, w: u32) -> u64;

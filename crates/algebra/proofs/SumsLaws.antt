@@ -50,3 +50,16 @@ sumTo-append n (suc m) f =
 -- a sum of fewer is at most the sum of more
 pub sumTo-mono : (n k : ℕ) (f : ℕ → ℕ) → n ≤ k → sumTo n f ≤ sumTo k f
 sumTo-mono n k f l = let e : n + (k - n) ≡ k = omega arith in omega (arith, sumTo-append n (k - n) f, ap (λ x. sumTo x f) e)
+
+-- a sum from its end
+pub sumTo-reverse : (n : ℕ) (f : ℕ → ℕ) → sumTo n f ≡ sumTo n (λ i. f (n - (i + 1)))
+sumTo-reverse zero f = sumTo-zero f ∙ sym (sumTo-zero _)
+sumTo-reverse (suc n) f =
+    omega (
+      arith,
+      sumTo-suc n f,
+      sumTo-reverse n f,
+      sumTo-front n (λ i. f (suc n - (i + 1))),
+      ap f (let e : suc n - (0 + 1) ≡ n = omega arith in e),
+      sumTo-ext n {f = λ i. f (suc n - (suc i + 1))} {g = λ i. f (n - (i + 1))} (λ i _. ap f (let e : suc n - (suc i + 1) ≡ n - (i + 1) = omega arith in e)),
+    )

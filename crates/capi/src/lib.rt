@@ -14,7 +14,7 @@ ghost use Rattle.numbers.specs.Refusals.{judge, outcome, refused, result, writt
 ghost use Rattle.residues.specs.Number.{numberOutcome, sumOf, differenceOf, productOf, inverseNumber};
 ghost use Rattle.series.specs.Series.{seriesChecks, inverseChecks, quotientChecks, sums, differences, product, quotient};
 ghost use Rattle.rows.specs.Rows.{rowsChecks, productChecks, shiftChecks, rowProduct, rowShift};
-ghost use Rattle.pair.specs.Paired.{pairChecks, continueChecks, PairDone};
+ghost use Rattle.pair.specs.Paired.{pairChecks, PairDone};
 ghost use Rattle.pair.specs.Pair.{order};
 ghost use Rattle.sheet.specs.Sheet.{Given, givenOf};
 ghost use Rattle.sheet.specs.Test.{soundTest};
@@ -177,27 +177,11 @@ pub extern "C" fn bk_rows_shift(p: u32, d: u32, n: u32, f: &[u32], c: u32, out: 
 }
 
 #[no_mangle]
-pub extern "C" fn bk_pair(p: u32, d: u32, n: u32, f: &[u32], w: u32, out: &mut [u32]) -> u64
-    ensures answer { λ r. ⌜ r ≡ packed (result (judge (pairChecks p d n (now (f .entry)) w (length (now (out .entry))))) (order d n (now (f .entry)))) ⌝ }
-    ensures words { λ _. ⌜ Leaves (judge (pairChecks p d n (now (f .entry)) w (length (now (out .entry))))) (PairDone p d n (now (f .entry)) w (now (out .entry)) (now (out .exit))) (now (out .entry)) (now (out .exit)) ⌝ }
+pub extern "C" fn bk_pair(p: u32, d: u32, n: u32, f: &[u32], h: u32, w: u32, out: &mut [u32]) -> u64
+    ensures answer { λ r. ⌜ r ≡ packed (result (judge (pairChecks p d n (now (f .entry)) h w (now (out .entry)))) (order d n (now (f .entry)))) ⌝ }
+    ensures words { λ _. ⌜ Leaves (judge (pairChecks p d n (now (f .entry)) h w (now (out .entry)))) (PairDone p d n (now (f .entry)) w (now (out .entry)) (now (out .exit))) (now (out .entry)) (now (out .exit)) ⌝ }
 {
-    pack(pair::pair(p, d, n, f, w, out))
-}
-
-#[no_mangle]
-pub extern "C" fn bk_pair_continue(
-    p: u32,
-    d: u32,
-    n: u32,
-    f: &[u32],
-    h: u32,
-    w: u32,
-    out: &mut [u32],
-) -> u64
-    ensures answer { λ r. ⌜ r ≡ packed (result (judge (continueChecks p d n (now (f .entry)) h w (now (out .entry)))) (order d n (now (f .entry)))) ⌝ }
-    ensures words { λ _. ⌜ Leaves (judge (continueChecks p d n (now (f .entry)) h w (now (out .entry)))) (PairDone p d n (now (f .entry)) w (now (out .entry)) (now (out .exit))) (now (out .entry)) (now (out .exit)) ⌝ }
-{
-    pack(pair::pair_continue(p, d, n, f, h, w, out))
+    pack(pair::pair(p, d, n, f, h, w, out))
 }
 
 #[no_mangle]

@@ -4,18 +4,18 @@ use mathlib.Core.Path.{_≡_, refl, sym, ap, ap₂, subst, _∙_}
 use mathlib.Core.Logic.{⊎-elim}
 use mathlib.Core.List.{List, [], _∷_, _++_, append-nil}
 use Prim.Native.Nat.{ℕ, zero, suc, _+_, _-_, _*_, _%_, _≤_, _<_}
-use native.Mathlib.Nat.{eq-or-lt-of-le, le-refl, mod-lt, mod-eq-of-lt, mod-mod, add-mod-right, sub-zero, mul-le-mul}
+use native.Mathlib.Nat.{eq-or-lt-of-le, mod-lt, mod-eq-of-lt, mod-mod, add-mod-right, sub-zero, mul-le-mul}
 use native.Mathlib.Numerals.{add-one}
 use native.Mathlib.Omega.{arith}
 use lib.ListN.{length, take, drop, set, length-append, length-drop, length-set, drop-of-length-le, List·getD-append, List·getD-eq-default}
-use lib.Seq.{ext-getD, getD-append-add, getD-drop, getD-take, getD-set-same, getD-set-other, set-getD, length-take-le, take-length, take-suc, take-suc-set, drop-set-lt, drop-cons, take-at, drop-at, take-append-add, drop-append-add, append-snoc}
+use lib.Seq.{ext-getD, getD-append-add, getD-drop, getD-take, getD-set-same, getD-set-other, set-getD, length-take-le, take-length, take-suc-set, drop-set-lt}
 use Rattle.numbers.specs.Words.{word, tabulate, over}
 use Rattle.numbers.specs.internal.Facts.{AllBelow}
 use Rattle.rows.specs.Rows.{rowsOf}
-use Rattle.numbers.proofs.WordsLaws.{lt-or-ge, length-tabulate, word-tabulate, tabulate-below, length-over, over-whole, Writing, writing-next, over-past, writing-past, from, from-is, length-from, from-below}
+use Rattle.numbers.proofs.WordsLaws.{lt-or-ge, length-tabulate, word-tabulate, tabulate-below, length-over, over-whole, Writing, writing-next, over-past, writing-past, from, from-is}
 use Rattle.numbers.specs.internal.Limits.{modulusBound}
 use Rattle.rows.proofs.RowsLaws.{row-fits}
-use Rattle.columns.specs.internal.Column.{hornerWord, hornerWords, lessMultiple, digits, lineTimes, undigits, ColumnStored, middleSum, firstOnly}
+use Rattle.columns.specs.internal.Column.{hornerWord, hornerWords, lessMultiple, digitOf, digitWords, lineTimes, ColumnStored, middleSum, firstOnly}
 
 -- a number below 2^24 times a word
 pub product-fits : (a b : ℕ) → a < modulusBound → b < 4294967296 → a * b ≤ 16777215 * 4294967295
@@ -153,6 +153,36 @@ put-from i e y =
     ap (λ (l : List ℕ). take i e ++ l)
     (ap (λ (l : List ℕ). y ++ l) (drop-of-length-le (drop i e) {i = length e - i} (simp length-drop (omega arith))) ∙ append-nil y)
 
+-- the part that a call is lent, and the list in which the call wrote it anew
+pub length-lent : (a len : ℕ) (s : List ℕ) → a + len ≤ length s → length (take len (drop a s)) ≡ len
+length-lent a len s h = length-take-le len (drop a s) (omega (arith, length-drop a s))
+
+abbrev pub put : (a len : ℕ) (s y : List ℕ) → List ℕ
+put a len s y = take a s ++ (y ++ drop len (drop a s))
+
+module _ (a len : ℕ) (s y : List ℕ) (fits : a + len ≤ length s) (ny : length y ≡ len) where
+  front : length (take a s) ≡ a
+  front = length-take-le a s (omega arith)
+
+  pub put-long : length (put a len s y) ≡ length s
+  put-long = length-append (take a s) _ ∙ omega (arith, front, length-append y (drop len (drop a s)), length-drop len (drop a s), length-drop a s)
+
+  pub put-before : (z : ℕ) → z < a → word (put a len s y) z ≡ word s z
+  put-before z l = List·getD-append (take a s) (y ++ drop len (drop a s)) 0 z (omega (arith, front)) ∙ getD-take a s z 0 l
+
+  inner : (i : ℕ) → word (put a len s y) (a + i) ≡ word (y ++ drop len (drop a s)) i
+  inner i = ap (λ v. word (put a len s y) (v + i)) (sym front) ∙ getD-append-add (take a s) (y ++ drop len (drop a s)) i 0
+
+  pub put-in : (i : ℕ) → i < len → word (put a len s y) (a + i) ≡ word y i
+  put-in i l = inner i ∙ List·getD-append y (drop len (drop a s)) 0 i (omega arith)
+
+  pub put-past : (z : ℕ) → a + len ≤ z → word (put a len s y) z ≡ word s z
+  put-past z l =
+      let i = z - (a + len) in
+      let e : a + (len + i) ≡ z = omega arith in
+      ap (word (put a len s y)) (sym e) ∙ inner (len + i) ∙ ap (λ v. word (y ++ drop len (drop a s)) (v + i)) (sym ny)
+      ∙ getD-append-add y (drop len (drop a s)) i 0 ∙ getD-drop len (drop a s) i 0 ∙ getD-drop a s (len + i) 0 ∙ ap (word s) e
+
 -- bounds of parts
 cons-below : (p q : ℕ) (s : List ℕ) → q < p → AllBelow p s → AllBelow p (q ∷ s)
 cons-below p q s h b zero l = h
@@ -173,13 +203,17 @@ drop-below p n s h k l = rw (getD-drop n s k 0) (h (n + k) (omega (arith, length
 pub take-below : (p n : ℕ) (s : List ℕ) → n ≤ length s → AllBelow p s → AllBelow p (take n s)
 take-below p n s g h k l = let e = length-take-le n s g in rw (getD-take n s k 0 (omega arith)) (h k (omega arith))
 
-pub over-below : (p : ℕ) (xs s : List ℕ) → AllBelow p xs → AllBelow p s → AllBelow p (over xs s)
+over-below : (p : ℕ) (xs s : List ℕ) → AllBelow p xs → AllBelow p s → AllBelow p (over xs s)
 over-below p xs s h g = append-below p xs (drop (length xs) s) h (drop-below p (length xs) s g)
 
 -- lengths, and bounds by p
 pub length-horner : (p c : ℕ) (e : List ℕ) → length (hornerWords p c e) ≡ length e
 unfolding hornerWords
 length-horner p c e = length-tabulate (length e) _
+
+-- the quotient by Y − c
+pub length-rest : (p c : ℕ) (e : List ℕ) → length (drop 1 (hornerWords p c e)) ≡ length e - 1
+length-rest p c e = length-drop 1 (hornerWords p c e) ∙ ap (λ (k : ℕ). k - 1) (length-horner p c e)
 
 pub length-less : (p q : ℕ) (a e : List ℕ) → length a ≤ length e → length (lessMultiple p q a e) ≡ length e
 unfolding lessMultiple
@@ -188,11 +222,6 @@ length-less p q a e h = length-over (tabulate (length a) (lessAt p q a e)) e (om
 pub length-line : (p c : ℕ) (e : List ℕ) → length (lineTimes p c e) ≡ length e
 unfolding lineTimes
 length-line p c e = length-tabulate (length e) _
-
-pub length-undigits : (p c : ℕ) (e : List ℕ) → length (undigits p c e) ≡ length e
-unfolding undigits
-length-undigits p c [] = refl
-length-undigits p c (q ∷ qs) = length-line p c (q ∷ undigits p c qs) ∙ ap suc (length-undigits p c qs)
 
 module _ (p : ℕ) (pos : 1 ≤ p) where
   pub horner-word-below : (c n : ℕ) (b : ℕ → ℕ) (t : ℕ) → hornerWord p c n b t < p
@@ -211,154 +240,44 @@ module _ (p : ℕ) (pos : 1 ≤ p) where
   unfolding lineTimes
   line-below c e = tabulate-below p (length e) _ (λ j _. mod-lt _ pos)
 
-  pub undigits-below : (c : ℕ) (e : List ℕ) → AllBelow p (undigits p c e)
-  unfolding undigits
-  undigits-below c [] = λ k l. omega arith
-  undigits-below c (q ∷ qs) = line-below c (q ∷ undigits p c qs)
-
 -- what a call of `less_multiple` is lent once the digit q is stored
 pub digit-rest : (h : List ℕ) (q : ℕ) → from (set h 0 q) 1 ≡ drop 1 h
 digit-rest h q = from-is (set h 0 q) 1 ∙ drop-set-lt 1 h 0 q (omega arith)
 
 pub digit-rest-length : (p c : ℕ) (e h : List ℕ) (q : ℕ) → h ≡ hornerWords p c e → length (from (set h 0 q) 1) ≡ length e - 1
-digit-rest-length p c e h q x = ap length (digit-rest h q) ∙ length-drop 1 h ∙ ap (λ (l : List ℕ). length l - 1) x ∙ ap (λ (n : ℕ). n - 1) (length-horner p c e)
+digit-rest-length p c e h q x = ap length (digit-rest h q ∙ ap (drop 1) x) ∙ length-rest p c e
 
 pub digit-rest-below : (p c : ℕ) (e h : List ℕ) (q : ℕ) → 1 ≤ p → h ≡ hornerWords p c e → AllBelow p (from (set h 0 q) 1)
 digit-rest-below p c e h q pos x = rw (digit-rest h q, x) (drop-below p 1 (hornerWords p c e) (horner-below p pos c e))
 
 module _ (p c w : ℕ) (a : List ℕ) where
-  -- the next digit of e, and what is left after it
-  abbrev pub digitOf : List ℕ → ℕ
-  digitOf e = word (hornerWords p c e) 0 * w % p
+  -- the digit's words, and what is left after it
+  pub digit-words : (e : List ℕ) → digitWords p c w a e ≡ digitOf p c w e ∷ lessMultiple p (digitOf p c w e) a (drop 1 (hornerWords p c e))
+  unfolding digitWords
+  digit-words e = refl
 
-  abbrev pub leftOf : List ℕ → List ℕ
-  leftOf e = lessMultiple p (digitOf e) a (drop 1 (hornerWords p c e))
+  pub length-digit : (e : List ℕ) → length a < length e → length (digitWords p c w a e) ≡ length e
+  length-digit e h =
+      let n = length-rest p c e in
+      ap length (digit-words e) ∙ ap suc (length-less p (digitOf p c w e) a (drop 1 (hornerWords p c e)) (omega arith)) ∙ omega arith
 
-  pub digits-zero : (e : List ℕ) → digits p c w a 0 e ≡ e
-  unfolding digits
-  digits-zero e = refl
-
-  pub digits-suc : (m : ℕ) (e : List ℕ) → digits p c w a (suc m) e ≡ digitOf e ∷ digits p c w a m (leftOf e)
-  unfolding digits
-  digits-suc m e = refl
-
-  pub digits-one : (e : List ℕ) → digits p c w a 1 e ≡ digitOf e ∷ leftOf e
-  unfolding digits
-  digits-one e = refl
-
-  pub length-left : (e : List ℕ) → length a < length e → length (leftOf e) ≡ length e - 1
-  length-left e h =
-      let n : length (drop 1 (hornerWords p c e)) ≡ length e - 1 = length-drop 1 (hornerWords p c e) ∙ ap (λ (k : ℕ). k - 1) (length-horner p c e) in
-      length-less p (digitOf e) a (drop 1 (hornerWords p c e)) (omega arith) ∙ n
-
-  pub length-digits : (m : ℕ) (e : List ℕ) → m + length a ≤ length e → length (digits p c w a m e) ≡ length e
-  length-digits zero e h = ap length (digits-zero e)
-  length-digits (suc m) e h =
-      let n = length-left e (omega arith) in
-      ap length (digits-suc m e) ∙ ap suc (length-digits m (leftOf e) (omega arith)) ∙ omega arith
-
-  pub left-below : (e : List ℕ) → 1 ≤ p → AllBelow p (leftOf e)
-  left-below e pos = less-below p pos (digitOf e) a (drop 1 (hornerWords p c e)) (drop-below p 1 (hornerWords p c e) (horner-below p pos c e))
-
-  pub digits-below : 1 ≤ p → (m : ℕ) (e : List ℕ) → AllBelow p e → AllBelow p (digits p c w a m e)
-  digits-below pos zero e h = rw (digits-zero e) h
-  digits-below pos (suc m) e h =
-      rw (digits-suc m e) (cons-below p (digitOf e) (digits p c w a m (leftOf e)) (mod-lt _ pos) (digits-below pos m (leftOf e) (left-below e pos)))
+  pub digit-below : 1 ≤ p → (e : List ℕ) → AllBelow p (digitWords p c w a e)
+  digit-below pos e =
+      let r = drop 1 (hornerWords p c e) in
+      rw (digit-words e) (cons-below p (digitOf p c w e) (lessMultiple p (digitOf p c w e) a r) (mod-lt _ pos)
+      (less-below p pos (digitOf p c w e) a r (drop-below p 1 (hornerWords p c e) (horner-below p pos c e))))
 
   -- what that call leaves
   pub digit-is : (e h y : List ℕ) → h ≡ hornerWords p c e → 1 ≤ length e
       → y ≡ lessMultiple p (word h 0 * w % p) a (from (set h 0 (word h 0 * w % p)) 1)
-      → putFrom 1 (set h 0 (word h 0 * w % p)) y ≡ digits p c w a 1 e
+      → putFrom 1 (set h 0 (word h 0 * w % p)) y ≡ digitWords p c w a e
   digit-is e h y q pos z =
       let d = word h 0 * w % p in
       put-from 1 (set h 0 d) y
       ∙ ap (λ (l : List ℕ). l ++ y) (take-suc-set h 0 d (omega (arith, ap length q, length-horner p c e)))
       ∙ ap (λ (l : List ℕ). d ∷ l) (z ∙ ap (lessMultiple p d a) (digit-rest h d))
       ∙ ap (λ (l : List ℕ). word l 0 * w % p ∷ lessMultiple p (word l 0 * w % p) a (drop 1 l)) q
-      ∙ sym (digits-one e)
-
-  -- the digits one by one
-  pub digits-turn : (m : ℕ) (s e y : List ℕ) (i : ℕ) → i < m → i ≤ length e → digits p c w a m s ≡ take i e ++ digits p c w a (m - i) (drop i e)
-      → y ≡ digits p c w a 1 (from e i)
-      → digits p c w a m s ≡ take (i + 1) (putFrom i e y) ++ digits p c w a (m - (i + 1)) (drop (i + 1) (putFrom i e y))
-  digits-turn m s e y i l h inv z =
-      let x = drop i e in
-      let n : length (take i e) + 1 ≡ i + 1 = ap (λ (k : ℕ). k + 1) (length-take-le i e h) in
-      let k : m - i ≡ suc (m - (i + 1)) = omega arith in
-      let u : y ≡ digitOf x ∷ leftOf x = z ∙ ap (digits p c w a 1) (from-is e i) ∙ digits-one x in
-      let v : putFrom i e y ≡ take i e ++ (digitOf x ∷ leftOf x) = put-from i e y ∙ ap (λ (l : List ℕ). take i e ++ l) u in
-      let t : take (i + 1) (putFrom i e y) ≡ take i e ++ (digitOf x ∷ []) =
-      ap (take (i + 1)) v ∙ ap (λ (j : ℕ). take j (take i e ++ (digitOf x ∷ leftOf x))) (sym n) ∙ take-append-add (take i e) (digitOf x ∷ leftOf x) 1 in
-      let d : drop (i + 1) (putFrom i e y) ≡ leftOf x =
-      ap (drop (i + 1)) v ∙ ap (λ (j : ℕ). drop j (take i e ++ (digitOf x ∷ leftOf x))) (sym n) ∙ drop-append-add (take i e) (digitOf x ∷ leftOf x) 1 in
-      inv ∙ ap (λ (j : ℕ). take i e ++ digits p c w a j x) k ∙ ap (λ (l : List ℕ). take i e ++ l) (digits-suc (m - (i + 1)) x)
-      ∙ sym (append-snoc (take i e) (digitOf x) (digits p c w a (m - (i + 1)) (leftOf x)))
-      ∙ rw (t, d) refl
-
-  pub digits-turn-length : (e y : List ℕ) (i : ℕ) → i + length a < length e → y ≡ digits p c w a 1 (from e i) → length (putFrom i e y) ≡ length e
-  digits-turn-length e y i h z =
-      let n : length y ≡ length e - i =
-      ap length z ∙ length-digits 1 (from e i) (omega (arith, length-from e i)) ∙ length-from e i in
-      ap length (put-from i e y) ∙ length-append (take i e) y ∙ omega (arith, length-take-le i e (omega arith))
-
-  pub digits-turn-below : 1 ≤ p → (e y : List ℕ) (i : ℕ) → i ≤ length e → AllBelow p e → y ≡ digits p c w a 1 (from e i) → AllBelow p (putFrom i e y)
-  digits-turn-below pos e y i h b z =
-      rw (put-from i e y, z) (append-below p (take i e) (digits p c w a 1 (from e i)) (take-below p i e h b)
-      (digits-below pos 1 (from e i) (from-below p e i b)))
-
-module _ (p c : ℕ) where
-  -- the list of a loop that has expanded the digits from i on
-  abbrev pub expandedFrom : ℕ → List ℕ → List ℕ
-  expandedFrom i s = take i s ++ undigits p c (drop i s)
-
-  pub undigits-cons : (q : ℕ) (qs : List ℕ) → undigits p c (q ∷ qs) ≡ lineTimes p c (q ∷ undigits p c qs)
-  unfolding undigits
-  undigits-cons q qs = refl
-
-  pub undigits-none : undigits p c [] ≡ []
-  unfolding undigits
-  undigits-none = refl
-
-  pub expanded-length : (i : ℕ) (s : List ℕ) → i ≤ length s → length (expandedFrom i s) ≡ length s
-  expanded-length i s h =
-      length-append (take i s) (undigits p c (drop i s))
-      ∙ omega (arith, length-take-le i s h, length-undigits p c (drop i s), length-drop i s)
-
-  pub expanded-below : 1 ≤ p → (i : ℕ) (s : List ℕ) → i ≤ length s → AllBelow p s → AllBelow p (expandedFrom i s)
-  expanded-below pos i s h b = append-below p (take i s) (undigits p c (drop i s)) (take-below p i s h b) (undigits-below p pos c (drop i s))
-
-  expanded-suc : (j : ℕ) (s : List ℕ) → j < length s → expandedFrom (suc j) s ≡ take j s ++ (word s j ∷ undigits p c (drop (suc j) s))
-  expanded-suc j s h =
-      ap (λ (l : List ℕ). l ++ undigits p c (drop (suc j) s)) (take-suc s j 0 h) ∙ append-snoc (take j s) (word s j) (undigits p c (drop (suc j) s))
-
-  -- one more
-  pub expanded-next : (j : ℕ) (s y : List ℕ) → j < length s → y ≡ lineTimes p c (from (expandedFrom (suc j) s) j)
-      → putFrom j (expandedFrom (suc j) s) y ≡ expandedFrom j s
-  expanded-next j s y h z =
-      let x = word s j ∷ undigits p c (drop (suc j) s) in
-      let n = length-take-le j s (omega arith) in
-      let t : take j (expandedFrom (suc j) s) ≡ take j s = ap (take j) (expanded-suc j s h) ∙ take-at (take j s) x j n in
-      let d : from (expandedFrom (suc j) s) j ≡ x = from-is (expandedFrom (suc j) s) j ∙ ap (drop j) (expanded-suc j s h) ∙ drop-at (take j s) x j n in
-      put-from j (expandedFrom (suc j) s) y ∙ ap (λ (l : List ℕ). l ++ y) t
-      ∙ ap (λ (l : List ℕ). take j s ++ l) (z ∙ ap (lineTimes p c) d ∙ sym (undigits-cons (word s j) (drop (suc j) s)) ∙ ap (undigits p c) (sym (drop-cons s j 0 h)))
-
-  pub expanded-turn : (i : ℕ) (s e y : List ℕ) → 0 < i → i ≤ length s → e ≡ expandedFrom i s → y ≡ lineTimes p c (from e (i - 1))
-      → putFrom (i - 1) e y ≡ expandedFrom (i - 1) s
-  expanded-turn i s e y pos h q z =
-      let k : i ≡ suc (i - 1) = omega arith in
-      let r : e ≡ expandedFrom (suc (i - 1)) s = q ∙ ap (λ (n : ℕ). expandedFrom n s) k in
-      ap (λ (l : List ℕ). putFrom (i - 1) l y) r ∙ expanded-next (i - 1) s y (omega arith) (z ∙ ap (λ (l : List ℕ). lineTimes p c (from l (i - 1))) r)
-
-  pub expanded-none : (s : List ℕ) → s ≡ expandedFrom (length s) s
-  expanded-none s =
-      sym (ap₂ (λ (x y : List ℕ). x ++ y) (take-length s) (ap (undigits p c) (drop-of-length-le s (le-refl (length s))) ∙ undigits-none) ∙ append-nil s)
-
-  -- the first m digits expanded
-  pub expanded-part : (m : ℕ) (d e y : List ℕ) → e ≡ d → m ≤ length d → y ≡ undigits p c (take m e) → y ++ drop m e ≡ over (undigits p c (take m d)) d
-  expanded-part m d e y q h z =
-      let u = undigits p c (take m d) in
-      let n : m ≡ length u = sym (length-undigits p c (take m d) ∙ length-take-le m d h) in
-      ap₂ (λ (x l : List ℕ). x ++ drop m l) (z ∙ ap (λ (l : List ℕ). undigits p c (take m l)) q) q ∙ ap (λ (k : ℕ). u ++ drop k d) n
+      ∙ sym (digit-words e)
 
 -- words at every index, past the end too
 module _ (p c : ℕ) (pos : zero < p) where
@@ -377,7 +296,7 @@ module _ (p c : ℕ) (pos : zero < p) where
       ∙ horner-word-more (d + n) b t (λ j l. h j (omega arith)) ∙ horner-word-longer d n b t h
 
   -- the coefficients from t on are all that count
-  pub horner-word-rest : (n : ℕ) (b : ℕ → ℕ) (t : ℕ) → ((j : ℕ) → n ≤ j → b j ≡ 0) → hornerWord p c (n - t) b t ≡ hornerWord p c n b t
+  horner-word-rest : (n : ℕ) (b : ℕ → ℕ) (t : ℕ) → ((j : ℕ) → n ≤ j → b j ≡ 0) → hornerWord p c (n - t) b t ≡ hornerWord p c n b t
   horner-word-rest n b t h =
       sym (horner-word-longer (n - (n - t)) (n - t) b t (λ j l. h j (omega arith)))
       ∙ ap (λ k. hornerWord p c k b t) (let e : n - (n - t) + (n - t) ≡ n = omega arith in e)

@@ -1,11 +1,11 @@
-// One column of a split, (Y − c)^m · B + P · A = E, by m divisions by Y − c with Horner's scheme: no derivative, no gcd, and nothing is
-// divided by but A(c). These trust their caller: they have a `requires`, and are for the crates of this repository. All are proved for
-// every modulus below 2^24.
+// Columns of rows: loaded, stored, gathered, set; and one digit of a column, E = q · A + (Y − c) · B, by Horner's scheme: no derivative, no gcd, and
+// nothing is divided by but A(c). These trust their caller: they have a `requires`, all but `repeat`, and are for the crates of this
+// repository. All are proved for every modulus below 2^24.
 use numbers::kernel::inverse_of;
 use rows::kernel::passes;
 ghost use mathlib.Core.Path.{_≡_};
 ghost use Prim.Native.Nat.{_+_, _-_, _*_, _%_, _≤_, _<_};
-ghost use lib.ListN.{length, take};
+ghost use lib.ListN.{length};
 ghost use Rattle.algebra.specs.Prime.{Prime};
 ghost use Rattle.numbers.specs.Divisor.{inverseOf};
 ghost use Rattle.numbers.specs.Words.{word, over, tabulate};
@@ -13,7 +13,7 @@ ghost use Rattle.numbers.specs.internal.Facts.{AllBelow};
 ghost use Rattle.numbers.specs.internal.Limits.{modulusBound};
 ghost use Rattle.numbers.specs.Limits.{mostRows, largestWidth};
 ghost use Rattle.rows.specs.Rows.{rowsOf};
-ghost use Rattle.columns.specs.internal.Column.{firstOnly, hornerWords, lessMultiple, digits, lineTimes, undigits, middleSum, ColumnStored};
+ghost use Rattle.columns.specs.internal.Column.{firstOnly, hornerWords, lessMultiple, digitWords, lineTimes, middleSum, ColumnStored, ColumnsSet};
 
 // Horner's scheme at c, in place: word 0 becomes the value at c, the others the quotient by Y − c.
 pub fn horner(p: u32, c: u32, e: &mut [u32])
@@ -40,27 +40,16 @@ fn less_multiple(p: u32, q: u32, a: &[u32], e: &mut [u32])
     }
 }
 
-// The next digit of e, in word 0, and in the others what is left: (e − q · A) / (Y − c), with q = e(c) / A(c).
-fn digit(p: u32, c: u32, inverse: u32, a: &[u32], e: &mut [u32])
+// The next digit of e, in word 0, and in the others what is left: (e − q · A) / (Y − c), with q = e(c) / A(c). `inverse` is 1 / A(c), and a the
+// quotient of A by Y − c.
+pub fn digit(p: u32, c: u32, inverse: u32, a: &[u32], e: &mut [u32])
     requires { ⌜ (1 ≤ p) × (p < modulusBound) × (c < p) × (inverse < p) × (length (now a) < length (now e)) × AllBelow p (now a) × AllBelow p (now e) ⌝ }
-    ensures { λ _. ⌜ now (e .exit) ≡ digits p c inverse (now (a .entry)) 1 (now (e .entry)) ⌝ }
+    ensures { λ _. ⌜ now (e .exit) ≡ digitWords p c inverse (now (a .entry)) (now (e .entry)) ⌝ }
 {
     horner(p, c, e);
     let q = ((e[0] as u64) * (inverse as u64) % (p as u64)) as u32;
     e[0] = q;
     less_multiple(p, q, a, &mut e[1..]);
-}
-
-// All m digits.
-fn all_digits(p: u32, c: u32, inverse: u32, a: &[u32], m: usize, e: &mut [u32])
-    requires { ⌜ (1 ≤ p) × (p < modulusBound) × (c < p) × (inverse < p) × (m + length (now a) ≤ length (now e)) × AllBelow p (now a) × AllBelow p (now e) ⌝ }
-    ensures { λ _. ⌜ now (e .exit) ≡ digits p c inverse (now (a .entry)) m (now (e .entry)) ⌝ }
-{
-    let mut i = 0;
-    while i < m {
-        digit(p, c, inverse, a, &mut e[i..]);
-        i += 1;
-    }
 }
 
 // q + (Y − c) · r, in place, for the words q, r_0, r_1, ..
@@ -74,27 +63,6 @@ pub fn line_times(p: u32, c: u32, e: &mut [u32])
         e[j] = ((e[j] as u64 + ((p - c) as u64) * (e[j + 1] as u64)) % (p as u64)) as u32;
         j += 1;
     }
-}
-
-// From digits to coefficients, in place: q_0 + q_1 · (Y − c) + q_2 · (Y − c)² + ..
-fn expand(p: u32, c: u32, e: &mut [u32])
-    requires { ⌜ (1 ≤ p) × (p < modulusBound) × (c < p) × AllBelow p (now e) ⌝ }
-    ensures { λ _. ⌜ now (e .exit) ≡ undigits p c (now (e .entry)) ⌝ }
-{
-    let mut i = e.len();
-    while 0 < i {
-        i -= 1;
-        line_times(p, c, &mut e[i..]);
-    }
-}
-
-// A column E becomes P and, from word m on, B, with (Y − c)^m · B + P · A = E. `inverse` is 1 / A(c), and a the quotient of A by Y − c.
-pub fn solve(p: u32, c: u32, inverse: u32, a: &[u32], m: usize, e: &mut [u32])
-    requires { ⌜ (1 ≤ p) × (p < modulusBound) × (c < p) × (inverse < p) × (m + length (now a) ≤ length (now e)) × AllBelow p (now a) × AllBelow p (now e) ⌝ }
-    ensures { λ _. ⌜ now (e .exit) ≡ over (undigits p c (take m (digits p c inverse (now (a .entry)) m (now (e .entry))))) (digits p c inverse (now (a .entry)) m (now (e .entry))) ⌝ }
-{
-    all_digits(p, c, inverse, a, m, e);
-    expand(p, c, &mut e[..m]);
 }
 
 // x − sum, reduced once.
@@ -158,7 +126,7 @@ pub fn store_column(e: &[u32], n: usize, t: usize, out: &mut [u32])
     }
 }
 
-// From A to what solving by it wants: 1 / A(c), and in the words from 1 on the quotient of A by Y − c.
+// From A to what a digit wants: 1 / A(c), and in the words from 1 on the quotient of A by Y − c.
 pub fn prepare(p: u32, c: u32, a: &mut [u32]) -> u32
     requires { ⌜ Prime p × (p < modulusBound) × (c < p) × (1 ≤ length (now a)) × AllBelow p (now a) × (1 ≤ word (hornerWords p c (now a)) 0) ⌝ }
     ensures inverse { λ r. ⌜ r ≡ inverseOf p (word (hornerWords p c (now (a .entry))) 0) ⌝ }
@@ -190,5 +158,44 @@ pub fn copy(words: &[u32], out: &mut [u32])
     while i < words.len() {
         out[i] = words[i];
         i += 1;
+    }
+}
+
+// One word, over and over.
+pub fn repeat(x: u32, out: &mut [u32])
+    ensures { λ _. ⌜ now (out .exit) ≡ tabulate (length (now (out .entry))) (λ _. x) ⌝ }
+{
+    let mut i = 0;
+    while i < out.len() {
+        out[i] = x;
+        i += 1;
+    }
+}
+
+// 0 from column w on, in every row.
+pub fn clear(n: usize, w: usize, d: usize, rows: &mut [u32])
+    requires { ⌜ (w ≤ n) × (n ≤ largestWidth) × (d ≤ mostRows) × (length (now rows) ≡ d * n) ⌝ }
+    ensures { λ _. ⌜ ColumnsSet n w n d (λ _ _. 0) (now (rows .entry)) (now (rows .exit)) ⌝ }
+{
+    let mut j = 0;
+    while j < d {
+        let a = j * n + w;
+        let e = j * n + n;
+        repeat(0, &mut rows[a..e]);
+        j += 1;
+    }
+}
+
+// Columns h to w − 1 of the rows become those of f.
+pub fn put_columns(f: &[u32], n: usize, h: usize, w: usize, d: usize, rows: &mut [u32])
+    requires { ⌜ (h ≤ w) × (w ≤ n) × (n ≤ largestWidth) × (d ≤ mostRows) × (length (now f) ≡ d * n) × (length (now rows) ≡ d * n) ⌝ }
+    ensures { λ _. ⌜ ColumnsSet n h w d (λ j t. word (now (f .entry)) (j * n + t)) (now (rows .entry)) (now (rows .exit)) ⌝ }
+{
+    let mut j = 0;
+    while j < d {
+        let a = j * n + h;
+        let e = j * n + w;
+        copy(&f[a..e], &mut rows[a..e]);
+        j += 1;
     }
 }

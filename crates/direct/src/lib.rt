@@ -44,7 +44,7 @@ fn split_column(
     store_column(column, n, t, rows);
 }
 
-// Columns 1 to w − 1 of the split.
+// Columns h to w − 1 of the split.
 pub fn split_columns(
     p: u32,
     m: usize,
@@ -53,15 +53,16 @@ pub fn split_columns(
     a0: &[u32],
     table: &[u32],
     n: usize,
+    h: usize,
     w: usize,
     e: &mut [u32],
     column: &mut [u32],
     rows: &mut [u32],
 )
-    requires { ⌜ SplitReady p n m k (now p0) (now a0) (now table) w (now rows) × (length (now e) ≡ m + k) × (length (now column) ≡ m + k) ⌝ }
-    ensures { λ _. ⌜ SplitTo p n m k (now (p0 .entry)) (now (a0 .entry)) w (now (rows .entry)) (now (rows .exit)) ⌝ }
+    requires { ⌜ SplitReady p n m k (now p0) (now a0) (now table) h w (now rows) × (length (now e) ≡ m + k) × (length (now column) ≡ m + k) ⌝ }
+    ensures { λ _. ⌜ SplitTo p n m k (now (p0 .entry)) (now (a0 .entry)) h w (now (rows .entry)) (now (rows .exit)) ⌝ }
 {
-    let mut t = 1;
+    let mut t = h;
     while t < w {
         split_column(p, m, k, table, n, t, e, column, rows);
         t += 1;

@@ -100,13 +100,8 @@ fn say_quotient(p: u32, n: u32, g: &[u32], h: &[u32], out: &mut [u32]) {
     say_words(answer, out);
 }
 
-fn say_pair(p: u32, d: u32, n: u32, f: &[u32], w: u32, out: &mut [u32]) {
-    let answer = pair::pair(p, d, n, f, w, out);
-    say_words(answer, out);
-}
-
-fn say_continue(p: u32, d: u32, n: u32, f: &[u32], h: u32, w: u32, out: &mut [u32]) {
-    let answer = pair::pair_continue(p, d, n, f, h, w, out);
+fn say_pair(p: u32, d: u32, n: u32, f: &[u32], h: u32, w: u32, out: &mut [u32]) {
+    let answer = pair::pair(p, d, n, f, h, w, out);
     say_words(answer, out);
 }
 
@@ -164,31 +159,33 @@ fn row_examples() {
 
 fn pair_examples() {
     let mut out = [9u32; 13];
-    // X + Y + Y² over 5, to 4 terms; to 2 terms and then on to 4
+    // X + Y + Y² over 5, to 4 terms; to 2 terms over these, and then on to 4
     let f = [0u32, 1, 0, 0, 1, 0, 0, 0, 1, 0, 0, 0];
-    say_pair(5, 2, 4, &f, 4, &mut out);
-    say_pair(5, 2, 4, &f, 2, &mut out);
-    say_continue(5, 2, 4, &f, 2, 4, &mut out);
-    // behind, beyond, spoiled
-    say_continue(5, 2, 4, &f, 4, 3, &mut out);
-    say_continue(5, 2, 4, &f, 4, 5, &mut out);
-    say_continue(5, 2, 4, &f, 3, 4, &mut out);
-    say_continue(5, 2, 4, &f, 0, 4, &mut out);
+    say_pair(5, 2, 4, &f, 0, 4, &mut out);
+    say_pair(5, 2, 4, &f, 0, 2, &mut out);
+    say_pair(5, 2, 4, &f, 2, 4, &mut out);
+    // behind, beyond, both, spoiled, from past the last term, no further
+    say_pair(5, 2, 4, &f, 4, 3, &mut out);
+    say_pair(5, 2, 4, &f, 4, 5, &mut out);
+    say_pair(5, 2, 4, &f, 4, 0, &mut out);
+    say_pair(5, 2, 4, &f, 3, 4, &mut out);
+    say_pair(5, 2, 4, &f, 5, 4, &mut out);
+    say_pair(5, 2, 4, &f, 4, 4, &mut out);
 }
 
 // Flat before beyond, over the pair from before; short before flat; order D; D = 0; A whose top row is 0 at X = 0.
 fn pair_shapes() {
     let mut out = [0u32, 1, 1, 2, 1, 4, 4, 3, 1, 0, 0, 0, 9];
     let flat = [0u32, 1, 0, 0, 0, 3, 0, 0, 0, 0, 0, 2];
-    say_pair(5, 2, 4, &flat, 0, &mut out);
+    say_pair(5, 2, 4, &flat, 0, 0, &mut out);
     let mut short = [9u32; 11];
-    say_pair(5, 2, 4, &flat, 0, &mut short);
+    say_pair(5, 2, 4, &flat, 0, 0, &mut short);
     let top = [0u32, 2, 1, 0, 0, 3, 4, 1, 3, 1, 0, 2];
-    say_pair(5, 2, 4, &top, 4, &mut out);
+    say_pair(5, 2, 4, &top, 0, 4, &mut out);
     let alone = [3u32, 1, 4, 1];
-    say_pair(5, 0, 4, &alone, 4, &mut out);
+    say_pair(5, 0, 4, &alone, 0, 4, &mut out);
     let falling = [0u32, 1, 2, 0, 1, 0, 3, 1, 0, 1, 0, 4];
-    say_pair(5, 2, 4, &falling, 4, &mut out);
+    say_pair(5, 2, 4, &falling, 0, 4, &mut out);
 }
 
 // X + (1 + X³) Y + (1 + X) Y² over 2, to 256 terms: p far below the number of terms.
@@ -200,7 +197,7 @@ fn long_pair() {
     f[259] = 1;
     f[512] = 1;
     f[513] = 1;
-    say_pair(2, 2, 256, &f, 256, &mut out);
+    say_pair(2, 2, 256, &f, 0, 256, &mut out);
 }
 
 fn say_test(s: &[u32]) {

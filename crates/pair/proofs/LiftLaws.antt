@@ -1,46 +1,62 @@
--- The lift: one more column of the pair.
---   start-words      column 0 of f is the pair to one term
---   prepared         what `prepare` makes of A at X = 0
---   lift-step        a column that solves for what is left makes the pair one term longer
---   done-step        .. and so step by step
+-- The lift: f's columns are put into the rows, and split in place.
+--   first-column      column 0 of a pair is f's
+--   begun             what stands in the rows before they are split
+--   worked            rows whose columns from h on multiply to f's hold the pair
+--   lift-start        what the split begins with: Y^d, and column 0 of the rows from d on
+--   lift-none         for d = 0 there is nothing to split: P is 1
+--   lift-split        the rows as the split leaves them
+--   lift-whole, lift-begins, lift-ends    the same for the numbers that `lift` has
 -- Assumes nothing.
 use Prim.Native.Nat.{ℕ, zero, suc, _+_, _-_, _*_, _%_, _≤_, _<_}
-use native.Mathlib.Nat.{eq-or-lt-of-le, mod-lt, add-mul, mul-comm, mod-eq-of-lt, add-zero, zero-mul}
+use native.Mathlib.Nat.{add-zero, zero-add, mod-eq-of-lt, zero-mul, one-mul, add-mul}
 use native.Mathlib.Omega.{arith}
-use mathlib.Core.Path.{_≡_, refl, sym, _∙_, ap, ap₂, subst, fun-ext}
-use mathlib.Core.Logic.{_≢_, _⊎_, ⊎-elim}
-use mathlib.Core.List.{List, _++_}
-use lib.ListN.{length, take, drop, length-take, length-drop, length-append, List·getD-eq-default}
-use lib.Seq.{ext-getD, getD-take, getD-drop, length-take-le, take-at, drop-append-le}
+use mathlib.Core.Path.{_≡_, refl, sym, _∙_, ap, ap₂, subst}
+use mathlib.Core.Logic.{_≢_, ⊎-elim, inl, inr}
+use mathlib.Core.List.{List, [], _∷_, _++_}
+use borrow.Author.Tests.{eq-eqb, ne-eqb}
+use lib.Dec.{eqb}
+use lib.ListN.{length, take, drop, set, length-append, length-drop, length-set, getD-replicate, List·getD-append}
+use lib.Seq.{ext-getD, getD-append-add, getD-set-same, getD-set-other, getD-take, length-take-le}
 use Rattle.algebra.specs.Prime.{Prime}
-use Rattle.algebra.specs.internal.Fp.{Fp}
+use Rattle.algebra.specs.internal.Fp.{Fp, rem}
 use Rattle.algebra.proofs.FpLaws.{p-pos}
 use Rattle.algebra.proofs.BridgeLaws.{same-rem, rem-zero}
-use Rattle.algebra.specs.internal.Poly.{linPow}
-use Rattle.numbers.specs.Words.{word, tabulate, over}
+use Rattle.algebra.specs.Sums.{sumTo}
+use Rattle.algebra.proofs.SolutionLaws.{lines-ext, lines-same}
+use Rattle.algebra.proofs.SumsLaws.{sumTo-front, sumTo-zeros}
+use Rattle.numbers.specs.Words.{word, choose, tabulate}
 use Rattle.numbers.specs.internal.Facts.{AllBelow}
-use Rattle.numbers.specs.Divisor.{inverseOf}
-use Rattle.numbers.proofs.WordsLaws.{lt-or-ge, length-tabulate, word-tabulate, length-over, from, length-from, word-from}
 use Rattle.numbers.specs.Limits.{mostRows}
-use Rattle.numbers.proofs.RefusalsLaws.{few-words}
-use Rattle.rows.proofs.ShiftLaws.{root-power}
-use Rattle.series.proofs.QuotientLaws.{inverse-law}
-use Rattle.rows.specs.Rows.{mul, linePower, unit, monic}
-use Rattle.rows.specs.internal.Passes.{passSum}
-use Rattle.rows.proofs.RowsLaws.{rows-below, rows-past, rows-bound, line-lt}
+use Rattle.numbers.proofs.WordsLaws.{lt-or-ge, length-tabulate, word-tabulate, from, word-from}
+use Rattle.rows.specs.Rows.{mul, monic, unit}
+use Rattle.rows.proofs.RowsLaws.{rows-below, rows-bound, row-fits, by-row, zeros}
 use Rattle.rows.proofs.MulLaws.{mul-ext}
+use Rattle.rows.proofs.MonicLaws.{monic-low, monic-top, monic-above, monic-ext, by-place}
+use Rattle.columns.specs.internal.Column.{hornerWord, hornerWords, ColumnsSet}
+use Rattle.columns.proofs.ColumnLaws.{horner-word-suc, horner-words-at}
+use Rattle.solution.specs.internal.Table.{rowsFrom, lowPoly, highPoly, Lines, SplitTo, SplitStart, SplitRoom, SplitBy}
+use Rattle.solution.proofs.NodeLaws.{lines-last}
+use Rattle.solution.proofs.StepLaws.{capped-low, capped-top, capped-above}
 use Rattle.pair.specs.Pair.{order, given, lowRows, highRows, PairWords}
-use Rattle.pair.specs.Paired.{PairDone}
-use Rattle.columns.specs.internal.Column.{hornerWord, hornerWords, digits, undigits, middleSum, lowPart, highPart, Solves, ColumnStored, Prepared, firstOnly}
-use Rattle.pair.specs.internal.Lifting.{startRows, Lifting}
-use Rattle.rows.proofs.MonicLaws.{monic-low, monic-top, monic-above, monic-later, monic-ext, by-place}
-use Rattle.pair.proofs.PairLaws.{first-high, first-low, monic-first}
+use Rattle.pair.specs.internal.Lifting.{PairGiven, PairStart, leadingColumn, Begun}
+use Rattle.pair.proofs.PairLaws.{first-high, first-low, yPow-below}
 use Rattle.pair.proofs.PairWordsLaws.{order-there, order-least, low-word, high-word, high-past}
-use Rattle.pair.proofs.PartLaws.{split}
-use Rattle.columns.proofs.ColumnLaws.{length-digits, length-undigits, horner-word-suc, horner-below, length-horner, horner-words-at, horner-word-rest}
-use Rattle.columns.proofs.SolveLaws.{solve-solves, column-lifts, pass-ext}
 
--- column 0 of s is that of f: rows below d are 0 there, and A is f moved down by d rows
+-- 1 · c is c
+monic-none : (p d : ℕ) (b c : ℕ → ℕ → ℕ) (j t : ℕ) → d ≡ 0 → c j t < p → mul p (monic d b) c j t ≡ c j t
+unfolding mul
+monic-none p d b c j t z l =
+    let at : ℕ → ℕ → ℕ = λ i s. monic d b i s * c (j - i) (t - s) in
+    let zeroth : at 0 0 ≡ c j t = ap₂ (λ x y. x * c y (t - 0)) (top 0) (let e : j - 0 ≡ j = omega arith in e) ∙ one-mul (c j (t - 0)) ∙ ap (c j) (let e : t - 0 ≡ t = omega arith in e) in
+    let first : sumTo t (λ s. at 0 (suc s)) ≡ 0 = sumTo-zeros t _ (λ s _. ap (λ x. x * c (j - 0) (t - suc s)) (top (suc s)) ∙ zero-mul _) in
+    let others : sumTo j (λ i. sumTo (suc t) (at (suc i))) ≡ 0 =
+    sumTo-zeros j _ (λ i _. sumTo-zeros (suc t) (at (suc i)) (λ s _. ap (λ x. x * c (j - suc i) (t - s)) (monic-above d b (suc i) s (omega arith)) ∙ zero-mul _)) in
+    ap (λ x. x % p) (let e : sumTo (suc j) (λ i. sumTo (suc t) (at i)) ≡ c j t = omega (arith, sumTo-front j (λ i. sumTo (suc t) (at i)), sumTo-front t (at 0), zeroth, first, others) in e)
+    ∙ mod-eq-of-lt l
+  where
+    top : (s : ℕ) → monic d b 0 s ≡ unit s
+    top s = ap (λ x. monic d b x s) (sym z) ∙ monic-top d b s
+
 module _ (p D N : ℕ) (f : List ℕ) (prime : Prime p) (below : AllBelow p f) (bound : order D N f ≤ D) where
   abbrev d : ℕ
   d = order D N f
@@ -51,369 +67,362 @@ module _ (p D N : ℕ) (f : List ℕ) (prime : Prime p) (below : AllBelow p f) (
   given-lt : (j t : ℕ) → given D N f j t < p
   given-lt j t = rows-bound p f N (D + 1) j t pos below
 
-  -- where the conditions hold in column 0, A is f moved down
-  pub first-column : (k : ℕ) (s : List ℕ) → 1 ≤ k → PairWords p D N f k s → (j : ℕ) → highRows D N d s j 0 ≡ given D N f (d + j) 0
-  first-column k s one h j =
-      ⊎-elim
-      (λ l. sym (first-high prime d (lowRows N d s) (highRows D N d s) (h .pair .first) j (subst (λ x. x < p) (sym (high-word D N d s j 0 l)) (h .reduced (d + j) l 0 one)))
-      ∙ h .pair .same (d + j) (omega arith) 0 one)
-      (λ l. high-past D N d s j 0 (omega arith) ∙ sym (rows-past f N (D + 1) (d + j) 0 l))
-      (lt-or-ge (d + j) (D + 1))
+  given-word : (j t : ℕ) → j < D + 1 → given D N f j t ≡ word f (j * N + t)
+  given-word j t l = rows-below f N (D + 1) j t l
 
-  -- the pair to one term
-  pub start-words : (s : List ℕ) → zero < N → ((j : ℕ) → j < D + 1 → (t : ℕ) → t < N → word s (j * N + t) ≡ startRows f N j t) → PairWords p D N f 1 s
-  start-words s width at =
-      let first : (j : ℕ) → j < D + 1 → word s (j * N + 0) ≡ given D N f j 0 = λ j l. at j l 0 width ∙ sym (rows-below f N (D + 1) j 0 l ∙ ap (word f) (add-zero (j * N))) in
-      let low : (j : ℕ) → j < d → lowRows N d s j 0 ≡ 0 = λ j l. low-word N d s j 0 l ∙ first j (omega arith) ∙ order-least D N f bound j l in
-      let high : (j : ℕ) → d + j < D + 1 → highRows D N d s j 0 ≡ given D N f (d + j) 0 = λ j l. high-word D N d s j 0 l ∙ first (d + j) l in
-      record {
-        pair = record {
-          bound = bound;
-          there = order-there D N f bound;
-          least = order-least D N f bound;
-          first = low;
-          height = λ j t l. high-past D N d s j t l;
-          unit = λ e. order-there D N f bound (ap (λ x. given D N f x 0) (sym (add-zero d)) ∙ sym (high 0 (omega arith)) ∙ e);
-          same = λ j l t g. subst (λ x. mul p (monic d (lowRows N d s)) (highRows D N d s) j x ≡ given D N f j x) (let z : 0 ≡ t = omega arith in z)
-              (⊎-elim (λ u. first-low prime d (lowRows N d s) (highRows D N d s) low j u ∙ sym (order-least D N f bound j u))
-              (λ u. let e : d + (j - d) ≡ j = omega arith in
-              subst (λ x. mul p (monic d (lowRows N d s)) (highRows D N d s) x 0 ≡ given D N f x 0) e
-              (first-high prime d (lowRows N d s) (highRows D N d s) low (j - d) (subst (λ x. x < p) (sym (high (j - d) (omega arith))) (given-lt (d + (j - d)) 0)) ∙ high (j - d) (omega arith))) (lt-or-ge j d));
-        };
-        reduced = λ j l t g. subst (λ x. word s (j * N + x) < p) (let z : 0 ≡ t = omega arith in z) (subst (λ x. x < p) (sym (first j l)) (given-lt j 0));
-        rest = λ j l t g u. at j l t u ∙ later (word f (j * N)) t g;
-      }
-    where
-      later : (x t : ℕ) → 1 ≤ t → firstOnly x t ≡ 0
-      later x zero l = absurd (let z : ⊥ = omega arith in z)
-      later x (suc t) l = refl
+  given-first : (j : ℕ) → j < D + 1 → given D N f j 0 ≡ word f (j * N)
+  given-first j l = given-word j 0 l ∙ ap (word f) (add-zero (j * N))
 
-  -- one more column
-  module _ (t : ℕ) (s s′ E R : List ℕ) (one : 1 ≤ t) (inside : t < N) (room : (D + 1) * N ≤ length s) (h : PairWords p D N f t s)
-      (gathered : E ≡ tabulate (D + 1) (λ j. (given D N f j t + (p - middleSum (lowRows N d s) (highRows D N d s) j t % p)) % p))
-      (solved : Solves p 0 d (λ j. given D N f (d + j) 0) E R) (stored : ColumnStored N t R s s′) where
-    E-long : length E ≡ D + 1
-    E-long = ap length gathered ∙ length-tabulate (D + 1) _
+  at-first : (s : List ℕ) (j : ℕ) → word s (j * N + 0) ≡ word s (j * N)
+  at-first s j = ap (word s) (add-zero (j * N))
 
-    R-long : length R ≡ D + 1
-    R-long = solved .long ∙ E-long
+  -- P · A with the words of s
+  abbrev product : List ℕ → ℕ → ℕ → ℕ
+  product s = mul p (monic d (lowRows N d s)) (highRows D N d s)
 
-    old : (j : ℕ) → j < D + 1 → (u : ℕ) → u < N → (u ≡ t → ⊥) → word s′ (j * N + u) ≡ word s (j * N + u)
-    old j l u g ne = stored .others j (omega (arith, R-long)) u g ne
+  -- it reads the words of the D + 1 rows up to its own column
+  product-ext : (s s′ : List ℕ) (t : ℕ) → ((u : ℕ) → u ≤ t → (j : ℕ) → j < D + 1 → word s′ (j * N + u) ≡ word s (j * N + u)) → (j : ℕ) → product s′ j t ≡ product s j t
+  product-ext s s′ t e j =
+      mul-ext p _ _ _ _ j t
+      (λ i u _ g. monic-ext d (lowRows N d s′) (lowRows N d s) u (λ i l. low-word N d s′ i u l ∙ e u g i (omega arith) ∙ sym (low-word N d s i u l)) i)
+      (λ i u _ g. ⊎-elim (λ l. high-word D N d s′ i u l ∙ e u g (d + i) l ∙ sym (high-word D N d s i u l))
+      (λ l. high-past D N d s′ i u (omega arith) ∙ sym (high-past D N d s i u (omega arith))) (lt-or-ge (d + i) (D + 1)))
 
-    new : (j : ℕ) → j < D + 1 → word s′ (j * N + t) ≡ word R j
-    new j l = stored .here j (omega (arith, R-long))
+  -- column 0 of a pair is f's
+  pub first-column : (k : ℕ) (s : List ℕ) → 1 ≤ k → PairWords p D N f k s → (j : ℕ) → j < D + 1 → word s (j * N) ≡ word f (j * N)
+  first-column k s one h j l =
+      sym (at-first s j)
+      ∙ ⊎-elim (λ (g : j < d). sym (low-word N d s j 0 g) ∙ h .pair .first j g ∙ sym (order-least D N f bound j g))
+      (λ (g : d ≤ j).
+      let e : d + (j - d) ≡ j = omega arith in
+      subst (λ x. word s (x * N + 0) ≡ given D N f x 0) e
+      (sym (high-word D N d s (j - d) 0 (omega arith))
+      ∙ sym (first-high prime d (lowRows N d s) (highRows D N d s) (h .pair .first) (j - d) (subst (λ x. x < p) (sym (high-word D N d s (j - d) 0 (omega arith))) (h .reduced (d + (j - d)) (omega arith) 0 one)))
+      ∙ h .pair .same (d + (j - d)) (omega arith) 0 one)) (lt-or-ge j d)
+      ∙ given-first j l
 
-    old-low : (j : ℕ) → j < d → (u : ℕ) → u < N → (u ≡ t → ⊥) → lowRows N d s′ j u ≡ lowRows N d s j u
-    old-low j l u g ne = low-word N d s′ j u l ∙ old j (omega arith) u g ne ∙ sym (low-word N d s j u l)
+  -- and where it is, its conditions hold there
+  module _ (s : List ℕ) (first : (j : ℕ) → j < D + 1 → word s (j * N) ≡ word f (j * N)) where
+    first-given : (j : ℕ) → j < D + 1 → word s (j * N + 0) ≡ given D N f j 0
+    first-given j l = at-first s j ∙ first j l ∙ sym (given-first j l)
 
-    old-high : (j u : ℕ) → u < N → (u ≡ t → ⊥) → highRows D N d s′ j u ≡ highRows D N d s j u
-    old-high j u g ne =
-        ⊎-elim (λ l. high-word D N d s′ j u l ∙ old (d + j) l u g ne ∙ sym (high-word D N d s j u l)) (λ l. high-past D N d s′ j u (omega arith) ∙ sym (high-past D N d s j u (omega arith)))
-        (lt-or-ge (d + j) (D + 1))
+    low-none : (j : ℕ) → j < d → lowRows N d s j 0 ≡ 0
+    low-none j l = low-word N d s j 0 l ∙ first-given j (omega arith) ∙ order-least D N f bound j l
 
-    abbrev P : ℕ → ℕ → ℕ
-    P = monic d (lowRows N d s′)
+    high-given : (j : ℕ) → d + j < D + 1 → highRows D N d s j 0 ≡ given D N f (d + j) 0
+    high-given j l = high-word D N d s j 0 l ∙ first-given (d + j) l
 
-    abbrev A : ℕ → ℕ → ℕ
-    A = highRows D N d s′
+    unit-there : highRows D N d s 0 0 ≢ 0
+    unit-there e = order-there D N f bound (ap (λ x. given D N f x 0) (sym (add-zero d)) ∙ sym (high-given 0 (omega arith)) ∙ e)
 
-    zero-ne : 0 ≡ t → ⊥
-    zero-ne e = omega arith
+    first-product : (j : ℕ) → j < D + 1 → product s j 0 ≡ given D N f j 0
+    first-product j l =
+        ⊎-elim (λ (u : j < d). first-low prime d (lowRows N d s) (highRows D N d s) low-none j u ∙ sym (order-least D N f bound j u))
+        (λ (u : d ≤ j).
+        let e : d + (j - d) ≡ j = omega arith in
+        subst (λ x. product s x 0 ≡ given D N f x 0) e
+        (first-high prime d (lowRows N d s) (highRows D N d s) low-none (j - d) (subst (λ x. x < p) (sym (high-given (j - d) (omega arith))) (given-lt (d + (j - d)) 0)) ∙ high-given (j - d) (omega arith)))
+        (lt-or-ge j d)
 
-    low-first : (j : ℕ) → j < d → lowRows N d s′ j 0 ≡ 0
-    low-first j l = old-low j l 0 (omega arith) zero-ne ∙ h .pair .first j l
+  -- f's columns h..w − 1 are put into rows, and 0 from column w on
+  module _ (h w : ℕ) (old s₁ s : List ℕ) (one : 1 ≤ w) (upto : h ≤ w) (top : w ≤ N) (f-long : length f ≡ (D + 1) * N) (long : length old ≡ (D + 1) * N)
+      (held : 1 ≤ h → PairWords p D N f h old) (cleared : ColumnsSet N w N (D + 1) (λ _ _. 0) old s₁) (put : ColumnsSet N h w (D + 1) (λ j t. word f (j * N + t)) s₁ s) where
+    s-long : length s ≡ (D + 1) * N
+    s-long = put .long ∙ cleared .long ∙ long
 
-    -- P is Y^d at X = 0
-    P-lt : (j : ℕ) → P j 0 < p
-    P-lt = by-place (λ j. P j 0 < p) d (λ j g. subst (λ x. x < p) (sym (monic-low d (lowRows N d s′) j 0 g ∙ low-first j g)) pos)
-        (subst (λ x. x < p) (sym (monic-top d (lowRows N d s′) 0)) (prime .two-le)) (λ j g. subst (λ x. x < p) (sym (monic-above d (lowRows N d s′) j 0 g)) pos)
+    s-kept : (t : ℕ) → t < h → (j : ℕ) → j < D + 1 → word s (j * N + t) ≡ word old (j * N + t)
+    s-kept t g j l = put .others j l t (omega arith) (inl g) ∙ cleared .others j l t (omega arith) (inl (omega arith))
 
-    P-first : (j : ℕ) → P j 0 ≡ linePower p (p - 0) d j
-    P-first j =
-        same-rem p pos (P-lt j) (line-lt p (p - 0) d j (prime .two-le))
-        (ap (λ x. x j) (monic-first prime d (lowRows N d s′) low-first ∙ ap (λ x. linPow (Fp p pos) x d) (sym (rem-zero p pos)) ∙ sym (root-power p pos 0 pos d)))
+    s-none : (t : ℕ) → w ≤ t → t < N → (j : ℕ) → j < D + 1 → word s (j * N + t) ≡ 0
+    s-none t g u j l = put .others j l t u (inr g) ∙ cleared .set j l t g u
 
-    A-first : _≡_ {A = ℕ → ℕ} (λ j. given D N f (d + j) 0) (λ j. A j 0)
-    A-first = fun-ext (λ j. sym (old-high j 0 (omega arith) zero-ne ∙ first-column t s one h j))
+    s-below : AllBelow p s
+    s-below x l = by-row (D + 1) N (λ x. word s x < p) (omega arith)
+        (λ j a t u. ⊎-elim (λ (g : t < h). subst (λ x. x < p) (sym (s-kept t g j a)) (held (omega arith) .reduced j a t g))
+        (λ (g : h ≤ t). ⊎-elim (λ (v : t < w). subst (λ x. x < p) (sym (put .set j a t g v)) (below (j * N + t) (omega (arith, row-fits j (D + 1) N a))))
+        (λ (v : w ≤ t). subst (λ x. x < p) (sym (s-none t v u j a)) pos) (lt-or-ge t w)) (lt-or-ge t h))
+        x (omega (arith, s-long))
 
-    -- between, nothing changed
-    middle : (j : ℕ) → middleSum (lowRows N d s) (highRows D N d s) j t ≡ passSum P A j 1 (t - 1)
-    middle j =
-        pass-ext j 1 (t - 1) (λ i u _ lo hi. between i u (lt-or-ge i d) lo (omega arith))
-        (λ i u _ lo hi. sym (old-high i u (omega arith) (λ e. let z : ⊥ = omega arith in z)))
-      where
-        later : (i u : ℕ) → d ≤ i → 1 ≤ u → P i u ≡ 0
-        later i zero l g = absurd (let z : ⊥ = omega arith in z)
-        later i (suc u) l g = monic-later d (lowRows N d s′) i u l
-
-        between : (i u : ℕ) → (i < d) ⊎ (d ≤ i) → 1 ≤ u → u < t → lowRows N d s i u ≡ P i u
-        between i u c lo hi =
-            ⊎-elim (λ l. sym (monic-low d (lowRows N d s′) i u l ∙ old-low i l u (omega arith) (λ e. let z : ⊥ = omega arith in z)))
-            (λ l. rows-past s N d i u l ∙ sym (later i u l lo)) c
-
-    left : (j : ℕ) → j < length E → word E j ≡ (given D N f j t + (p - passSum P A j 1 (t - 1) % p)) % p
-    left j l =
-        ap (λ x. word x j) gathered ∙ word-tabulate (D + 1) _ j (omega (arith, E-long)) ∙ ap (λ x. (given D N f j t + (p - x % p)) % p) (middle j)
-
-    P-new : (j : ℕ) → P j t ≡ lowPart d R j
-    P-new j =
-        ⊎-elim (λ l. monic-low d (lowRows N d s′) j t l ∙ low-word N d s′ j t l ∙ new j (omega arith) ∙ sym (getD-take d R j 0 l))
-        (λ l. later t one l ∙ sym (List·getD-eq-default (take d R) 0 (let z = length-take d R in omega arith))) (lt-or-ge j d)
-      where
-        later : (t : ℕ) → 1 ≤ t → d ≤ j → monic d (lowRows N d s′) j t ≡ 0
-        later zero l g = absurd (let z : ⊥ = omega arith in z)
-        later (suc t) l g = monic-later d (lowRows N d s′) j t g
-
-    A-new : (j : ℕ) → A j t ≡ highPart d R j
-    A-new j =
-        ⊎-elim (λ l. high-word D N d s′ j t l ∙ new (d + j) l) (λ l. high-past D N d s′ j t (omega arith) ∙ sym (List·getD-eq-default R 0 (omega (arith, R-long)))) (lt-or-ge (d + j) (D + 1))
-        ∙ sym (getD-drop d R j 0)
-
-    column : (j : ℕ) → j ≤ D → mul p P A j t ≡ given D N f j t
-    column j l =
-        column-lifts p 0 d t P A (given D N f) E R one P-first left (subst (λ x. Solves p 0 d x E R) A-first solved) P-new A-new j (omega (arith, E-long)) (given-lt j t)
-
-    earlier : (j u : ℕ) → u < t → mul p P A j u ≡ mul p (monic d (lowRows N d s)) (highRows D N d s) j u
-    earlier j u l =
-        mul-ext p P (monic d (lowRows N d s)) A (highRows D N d s) j u
-        (λ i v _ g. monic-ext d (lowRows N d s′) (lowRows N d s) v (λ i m. old-low i m v (omega arith) (λ e. let z : ⊥ = omega arith in z)) i)
-        (λ i v _ g. old-high i v (omega arith) (λ e. let z : ⊥ = omega arith in z))
-
-    by-column : (B : ℕ → Type 0) → B t → ((u : ℕ) → u < t → B u) → (u : ℕ) → u < t + 1 → B u
-    by-column B last before u l = ⊎-elim (λ (e : u ≡ t). subst B (sym e) last) (before u) (eq-or-lt-of-le {n = u} {m = t} (omega arith))
-
-    pub lifted : PairDone p D N f (t + 1) s s′
-    lifted = record {
-      long = stored .long;
-      words = record {
-        pair = record {
-          bound = h .pair .bound;
-          there = h .pair .there;
-          least = h .pair .least;
-          first = low-first;
-          height = λ j u l. high-past D N d s′ j u l;
-          unit = λ e. h .pair .unit (sym (old-high 0 0 (omega arith) zero-ne) ∙ e);
-          same = λ j l. by-column (λ u. mul p P A j u ≡ given D N f j u) (column j l) (λ u g. earlier j u g ∙ h .pair .same j l u g);
-        };
-        reduced = λ j l. by-column (λ u. word s′ (j * N + u) < p) (subst (λ x. x < p) (sym (new j l)) (solved .reduced j (omega (arith, R-long))))
-            (λ u g. subst (λ x. x < p) (sym (old j l u (omega arith) (λ e. let z : ⊥ = omega arith in z))) (h .reduced j l u g));
-        rest = λ j l u g m. old j l u m (λ e. let z : ⊥ = omega arith in z) ∙ h .rest j l u (omega arith) m;
-      };
-      rest = ext-getD 0 _ _ (length-drop ((D + 1) * N) s′ ∙ ap (λ x. x - (D + 1) * N) (stored .long) ∙ sym (length-drop ((D + 1) * N) s))
-          (λ i _. getD-drop ((D + 1) * N) s′ i 0 ∙ stored .rest ((D + 1) * N + i) (let e = ap (λ x. x * N) R-long in omega arith) ∙ sym (getD-drop ((D + 1) * N) s i 0));
+    begun-at : (first : ℕ) → 1 ≤ first → h ≤ first → ((t : ℕ) → 1 ≤ t → t < first → t < h) → ((j : ℕ) → j < D + 1 → word s (j * N) ≡ word f (j * N)) → Begun p D N f first w s
+    begun-at first low from upto′ zeroth = record {
+      long = s-long;
+      below = s-below;
+      first = zeroth;
+      between = λ t lo hi j l.
+          let g : t < h = upto′ t lo hi in
+          product-ext old s t (λ u v j l. s-kept u (omega arith) j l) j ∙ held (omega arith) .pair .same j (omega arith) t g ∙ given-word j t l;
+      put = λ t lo hi j l. put .set j l t (omega arith) hi;
+      rest = s-none;
     }
 
--- one step after others
-pub done-none : {p D N : ℕ} {f : List ℕ} {t : ℕ} {s : List ℕ} → PairWords p D N f t s → PairDone p D N f t s s
-done-none h = record { long = refl; words = h; rest = refl }
+    pub begun : Begun p D N f (choose (eqb h 0) 1 h) w s
+    begun =
+        ⊎-elim
+        (λ (z : h < 1).
+        let e : h ≡ 0 = omega arith in
+        subst (λ x. Begun p D N f x w s) (sym (ap (λ b. choose b 1 h) (eq-eqb h 0 e)))
+        (begun-at 1 (omega arith) (omega arith) (λ t lo hi. absurd (let z : ⊥ = omega arith in z))
+        (λ j l. sym (at-first s j) ∙ put .set j l 0 (omega arith) (omega arith) ∙ at-first f j)))
+        (λ (z : 1 ≤ h).
+        subst (λ x. Begun p D N f x w s) (sym (ap (λ b. choose b 1 h) (ne-eqb h 0 (λ e. let z : ⊥ = omega arith in z))))
+        (begun-at h z (omega arith) (λ t lo hi. hi)
+        (λ j l. sym (at-first s j) ∙ s-kept 0 z j l ∙ at-first old j ∙ first-column h old z (held z) j l)))
+        (lt-or-ge h 1)
 
-pub done-step : {p D N : ℕ} {f : List ℕ} {t u : ℕ} {s s′ s″ : List ℕ} → PairDone p D N f t s s′ → PairDone p D N f u s′ s″ → PairDone p D N f u s s″
-done-step h g = record { long = g .long ∙ h .long; words = g .words; rest = g .rest ∙ h .rest }
+  -- the columns from h on are worked
+  module _ (h w : ℕ) (s new : List ℕ) (b : Begun p D N f h w s) (low : 1 ≤ h) (one : 1 ≤ w) (top : w ≤ N)
+      (new-below : (i : ℕ) → i < (D + 1) * N → word new i < p)
+      (first : (j : ℕ) → j < D + 1 → word new (j * N) ≡ word s (j * N))
+      (kept : (t : ℕ) → 1 ≤ t → t < h → (j : ℕ) → j < D + 1 → word new (j * N + t) ≡ word s (j * N + t))
+      (same : (t : ℕ) → h ≤ t → t < w → (j : ℕ) → j < D + 1 → product new j t ≡ word s (j * N + t))
+      (rest : (t : ℕ) → w ≤ t → t < N → (j : ℕ) → j < D + 1 → word new (j * N + t) ≡ word s (j * N + t)) where
+    first-is : (j : ℕ) → j < D + 1 → word new (j * N) ≡ word f (j * N)
+    first-is j l = first j l ∙ b .first j l
 
-pub lifting-step : {p D N : ℕ} {f : List ℕ} {d t u : ℕ} {s s′ : List ℕ} → Lifting p D N f d t s → PairDone p D N f u s s′ → Lifting p D N f d u s′
-lifting-step l h = record {
-  prime = l .prime;
-  small = l .small;
-  degree-high = l .degree-high;
-  width-low = l .width-low;
-  width-high = l .width-high;
-  f-long = l .f-long;
-  f-below = l .f-below;
-  ordered = l .ordered;
-  bound = l .bound;
-  roomy = let z = l .roomy in let y = h .long in omega arith;
-  words = h .words;
-}
+    before : (u : ℕ) → u < h → (j : ℕ) → j < D + 1 → word new (j * N + u) ≡ word s (j * N + u)
+    before zero g j l = at-first new j ∙ first j l ∙ sym (at-first s j)
+    before (suc u) g j l = kept (suc u) (omega arith) g j l
 
--- as the loop has it: d is a number that is the order
-lift-step : {p D N : ℕ} {f : List ℕ} {d t : ℕ} {inverse : ℕ} {a s s′ E R : List ℕ} → Lifting p D N f d t s → 1 ≤ t → t < N
-    → E ≡ tabulate (D + 1) (λ j. (given D N f j t + (p - middleSum (lowRows N d s) (highRows D N d s) j t % p)) % p)
-    → Prepared p 0 (D + 1 - d) (λ j. given D N f (d + j) 0) inverse a
-    → R ≡ over (undigits p 0 (take d (digits p 0 inverse a d E))) (digits p 0 inverse a d E)
-    → ColumnStored N t R s s′ → PairDone p D N f (t + 1) s s′
-lift-step {p} {D} {N} {f} {d} {t} {inverse} {a} {s} {s′} {E} {R} l one inside gathered ready solved stored =
-    let e = l .ordered in
-    let b = l .bound in
-    let pos = p-pos (l .prime) in
-    let E-long : length E ≡ D + 1 = ap length gathered ∙ length-tabulate (D + 1) _ in
-    let E-below : AllBelow p E = λ k g. subst (λ x. x < p) (sym (ap (λ x. word x k) gathered ∙ word-tabulate (D + 1) _ k (omega arith))) (mod-lt _ pos) in
-    let S : Solves p 0 d (λ j. given D N f (d + j) 0) E R =
-    subst (λ r. Solves p 0 d (λ j. given D N f (d + j) 0) E r) (sym solved)
-    (solve-solves p 0 (l .prime .two-le) pos (λ j. given D N f (d + j) 0) (D + 1 - d) (λ j g. rows-past f N (D + 1) (d + j) 0 (omega arith)) a (ready .long) (ready .quotient) inverse (ready .unit) d E
-    (let z = ready .long in omega arith) E-below) in
-    lifted p D N f (l .prime) (l .f-below) (subst (λ x. x ≤ D) e b) t s s′ E R one inside (l .roomy) (l .words)
-    (gathered ∙ ap (λ x. tabulate (D + 1) (λ j. (given D N f j t + (p - middleSum (lowRows N x s) (highRows D N x s) j t % p)) % p)) e)
-    (subst (λ x. Solves p 0 x (λ j. given D N f (x + j) 0) E R) e S) stored
+    multiply : (t : ℕ) → t < w → (j : ℕ) → j < D + 1 → product new j t ≡ given D N f j t
+    multiply zero g j l = first-product new first-is j l
+    multiply (suc t) g j l =
+        ⊎-elim (λ (u : suc t < h). product-ext s new (suc t) (λ v a j l. before v (omega arith) j l) j ∙ b .between (suc t) (omega arith) u j l)
+        (λ (u : h ≤ suc t). same (suc t) u g j l ∙ b .put (suc t) u g j l) (lt-or-ge (suc t) h)
+        ∙ sym (given-word j (suc t) l)
 
--- what `prepare` makes of L, column 0 of the rows of f from d on
-module _ {p D N : ℕ} {f : List ℕ} {d t : ℕ} {s : List ℕ} (l : Lifting p D N f d t s) {L : List ℕ}
-    (loaded : L ≡ tabulate (D + 1 - d) (λ j. word (from f (d * N)) (j * N + 0))) where
-  L-long : length L ≡ D + 1 - d
-  L-long = ap length loaded ∙ length-tabulate (D + 1 - d) _
+    pub worked : PairWords p D N f w new
+    worked = record {
+      pair = record {
+        bound = bound;
+        there = order-there D N f bound;
+        least = order-least D N f bound;
+        first = low-none new first-is;
+        height = λ j t l. high-past D N d new j t l;
+        unit = unit-there new first-is;
+        same = λ j l t g. multiply t g j (omega arith);
+      };
+      reduced = λ j l t g. new-below (j * N + t) (omega (arith, row-fits j (D + 1) N l));
+      rest = λ j l t g u. rest t g u j l ∙ b .rest t g u j l;
+    }
 
-  L-word : (j : ℕ) → word L j ≡ given D N f (d + j) 0
-  L-word j =
+  -- for d = 0 P is 1 and A is f
+  pub lift-none : (h w : ℕ) (s : List ℕ) → d ≡ 0 → 1 ≤ h → 1 ≤ w → w ≤ N → Begun p D N f h w s → PairWords p D N f w s
+  lift-none h w s z low one top b =
+      worked h w s s b low one top (λ i l. b .below i (let e = b .long in omega arith)) (λ j l. refl) (λ t lo hi j l. refl)
+      (λ t lo hi j l.
+      monic-none p d (lowRows N d s) (highRows D N d s) j t z (subst (λ x. x < p) (sym (at j t l)) (b .below (j * N + t) (let e = b .long in omega (arith, row-fits j (D + 1) N l)))) ∙ at j t l)
+      (λ t lo hi j l. refl)
+    where
+      at : (j t : ℕ) → j < D + 1 → highRows D N d s j t ≡ word s (j * N + t)
+      at j t l = high-word D N d s j t (omega arith) ∙ ap (λ x. word s (x * N + t)) (let e : d + j ≡ j = omega arith in e)
+
+-- column 0 of the rows from d on, and 0
+module _ (d N k : ℕ) (s : List ℕ) where
+  front : length (tabulate k (λ j. word s ((d + j) * N))) ≡ k
+  front = length-tabulate k _
+
+  pub leading-long : length (leadingColumn d N k s) ≡ k + 1
+  unfolding leadingColumn
+  leading-long = length-append (tabulate k (λ j. word s ((d + j) * N))) (0 ∷ []) ∙ ap (λ x. x + 1) front
+
+  pub leading-at : (j : ℕ) → j < k → word (leadingColumn d N k s) j ≡ word s ((d + j) * N)
+  unfolding leadingColumn
+  leading-at j l = List·getD-append (tabulate k (λ j. word s ((d + j) * N))) (0 ∷ []) 0 j (omega (arith, front)) ∙ word-tabulate k _ j l
+
+  pub leading-last : word (leadingColumn d N k s) k ≡ 0
+  unfolding leadingColumn
+  leading-last =
+      ap (word (tabulate k (λ j. word s ((d + j) * N)) ++ (0 ∷ []))) (let e : k ≡ length (tabulate k (λ j. word s ((d + j) * N))) + 0 = omega (arith, front) in e)
+      ∙ getD-append-add (tabulate k (λ j. word s ((d + j) * N))) (0 ∷ []) 0 0
+
+  -- as it is made: loaded over the first k words, and then 0
+  pub leading-made : (a x : List ℕ) → length a ≡ k + 1 → x ≡ tabulate (length (take k a)) (λ j. word (from s (d * N)) (j * N + 0)) → set (x ++ drop k a) k 0 ≡ leadingColumn d N k s
+  leading-made a x n e =
+      let nt : length (take k a) ≡ k = length-take-le k a (omega arith) in
+      let nx : length x ≡ k = ap length e ∙ length-tabulate (length (take k a)) _ ∙ nt in
+      let nw : length (x ++ drop k a) ≡ k + 1 = length-append x (drop k a) ∙ omega (arith, length-drop k a) in
+      let new = set (x ++ drop k a) k 0 in
+      let nn : length new ≡ k + 1 = length-set (x ++ drop k a) k 0 ∙ nw in
+      ext-getD 0 _ _ (nn ∙ sym leading-long) (λ j l.
       ⊎-elim
-      (λ g. ap (λ x. word x j) loaded ∙ word-tabulate (D + 1 - d) _ j g ∙ word-from f (d * N) (j * N + 0)
-      ∙ ap (word f) (let z : d * N + (j * N + 0) ≡ (d + j) * N + 0 = omega (arith, add-mul d j N) in z) ∙ sym (rows-below f N (D + 1) (d + j) 0 (omega arith)))
-      (λ g. List·getD-eq-default L 0 (omega (arith, L-long)) ∙ sym (rows-past f N (D + 1) (d + j) 0 (omega arith)))
-      (lt-or-ge j (D + 1 - d))
+      (λ (u : j < k).
+      getD-set-other (x ++ drop k a) k j 0 0 (λ q. let z : ⊥ = omega arith in z) ∙ List·getD-append x (drop k a) 0 j (omega arith)
+      ∙ ap (λ y. word y j) e ∙ word-tabulate (length (take k a)) _ j (omega arith) ∙ word-from s (d * N) (j * N + 0)
+      ∙ ap (word s) (let z : d * N + (j * N + 0) ≡ (d + j) * N = omega (arith, add-mul d j N) in z) ∙ sym (leading-at j u))
+      (λ (u : k ≤ j).
+      let q : j ≡ k = omega arith in
+      ap (word new) q ∙ getD-set-same (x ++ drop k a) k 0 0 (omega arith) ∙ sym (ap (word (leadingColumn d N k s)) q ∙ leading-last))
+      (lt-or-ge j k))
 
-  L-is : _≡_ {A = ℕ → ℕ} (word L) (λ j. given D N f (d + j) 0)
-  L-is = fun-ext L-word
+-- the product of d lines Y − 0 is Y^d
+zeros-low : (p : ℕ) → Prime p → (roots P : List ℕ) → ((i : ℕ) → i < length roots → word roots i ≡ 0) → Lines p roots P → (j : ℕ) → j < length roots → word P j ≡ 0
+zeros-low p prime roots P z h j l =
+    let pos = p-pos prime in
+    let K = Fp p pos in
+    same-rem p pos (h .below j (let e = h .long in omega arith)) pos
+    (ap (λ x. x j) (h .is pos ∙ lines-ext K (length roots) (λ i u. ap (rem p pos) (z i u) ∙ rem-zero p pos) ∙ lines-same K (K .𝟘) (length roots))
+    ∙ yPow-below K (length roots) j l ∙ sym (rem-zero p pos))
 
-  pub loaded-below : AllBelow p L
-  loaded-below k g = subst (λ x. x < p) (sym (L-word k)) (rows-bound p f N (D + 1) (d + k) 0 (p-pos (l .prime)) (l .f-below))
+-- a split of the rows s that begins with Y^d
+module _ (p d N size : ℕ) (roots s : List ℕ) (h : PairStart p d N roots size s) (below : AllBelow p s) (long : length s ≡ (d + (size - 1)) * N) (wide : 1 ≤ N) where
+  abbrev A : List ℕ
+  A = leadingColumn d N (size - 1) s
 
-  value : word (hornerWords p 0 L) 0 ≡ given D N f d 0
-  value =
-      let b = l .bound in
-      let k : length L ≡ suc (D - d) = L-long ∙ omega arith in
-      horner-words-at p 0 (p-pos (l .prime)) L 0 ∙ ap (λ n. hornerWord p 0 n (word L) 0) k ∙ horner-word-suc p 0 (D - d) (word L) 0
-      ∙ ap (λ x. x % p) (let z : word L 0 + 0 * hornerWord p 0 (D - d) (word L) 1 ≡ word L 0 = omega (arith, zero-mul (hornerWord p 0 (D - d) (word L) 1)) in z)
-      ∙ mod-eq-of-lt (loaded-below 0 (omega arith)) ∙ L-word 0 ∙ ap (λ x. given D N f x 0) (add-zero d)
+  A-long : length A ≡ size
+  A-long = leading-long d N (size - 1) s ∙ (let e = h .high in omega arith)
 
-  pub value-low : 1 ≤ word (hornerWords p 0 L) 0
-  value-low =
-      let there : given D N f d 0 ≢ 0 = λ z. order-there D N f (subst (λ x. x ≤ D) (l .ordered) (l .bound)) (subst (λ x. given D N f x 0 ≡ 0) (l .ordered) z) in
-      ⊎-elim (λ g. absurd (there (sym value ∙ omega arith))) (λ g. g) (lt-or-ge (word (hornerWords p 0 L) 0) 1)
+  some : zero < p
+  some = p-pos (h .prime)
 
-  pub prepared : Prepared p 0 (D + 1 - d) (λ j. given D N f (d + j) 0) (inverseOf p (word (hornerWords p 0 L) 0)) (drop 1 (hornerWords p 0 L))
-  prepared =
-      let b = l .bound in
-      let pos = p-pos (l .prime) in
-      let H-long = length-horner p 0 L in
-      let long : length (drop 1 (hornerWords p 0 L)) + 1 ≡ D + 1 - d = ap (λ x. x + 1) (length-drop 1 (hornerWords p 0 L)) ∙ omega (arith, L-long) in
-      let H-below = horner-below p pos 0 L in
-      let inverse = inverse-law (l .prime) (word (hornerWords p 0 L) 0) value-low (H-below 0 (omega (arith, L-long))) in
+  A-below : AllBelow p A
+  A-below j l =
+      ⊎-elim (λ (g : j < size - 1). subst (λ x. x < p) (sym (leading-at d N (size - 1) s j g)) (below ((d + j) * N) (omega (arith, row-fits (d + j) (d + (size - 1)) N (omega arith)))))
+      (λ (g : size - 1 ≤ j). let e : size - 1 ≡ j = omega (arith, A-long) in subst (λ x. word A x < p) e (subst (λ x. x < p) (sym (leading-last d N (size - 1) s)) some)) (lt-or-ge j (size - 1))
+
+  A-value : word (hornerWords p 0 A) 0 ≡ word A 0
+  A-value =
+      let e : length A ≡ suc (size - 1) = A-long ∙ (let z = h .high in omega arith) in
+      horner-words-at p 0 some A 0 ∙ ap (λ n. hornerWord p 0 n (word A) 0) e ∙ horner-word-suc p 0 (size - 1) (word A) 0
+      ∙ ap (λ x. x % p) (let z : word A 0 + 0 * hornerWord p 0 (size - 1) (word A) 1 ≡ word A 0 = omega (arith, zero-mul (hornerWord p 0 (size - 1) (word A) 1)) in z)
+      ∙ mod-eq-of-lt (A-below 0 (let z = h .high in omega (arith, A-long)))
+
+  A-first : word A 0 ≡ word s (d * N)
+  A-first = leading-at d N (size - 1) s 0 (let z = h .high in omega arith) ∙ ap (λ x. word s (x * N)) (add-zero d)
+
+  pub lift-start : SplitStart p roots A
+  lift-start =
+      let n = h .roots-long in let low = h .low in let high = h .high in let room = h .room in
       record {
-        long = long;
-        below = λ k g. subst (λ x. x < p) (sym (getD-drop 1 (hornerWords p 0 L) k 0)) (H-below (1 + k) (let z = length-drop 1 (hornerWords p 0 L) in omega arith));
-        quotient = λ j g.
-            getD-drop 1 (hornerWords p 0 L) j 0 ∙ horner-words-at p 0 pos L (1 + j)
-            ∙ sym (horner-word-rest p 0 pos (length L) (word L) (1 + j) (λ i u. List·getD-eq-default L 0 u))
-            ∙ ap₂ (λ n i. hornerWord p 0 n (word L) i) (let z : length L - (1 + j) ≡ D + 1 - d - (j + 1) = omega (arith, L-long) in z) (let z : 1 + j ≡ j + 1 = omega arith in z)
-            ∙ ap (λ x. hornerWord p 0 (D + 1 - d - (j + 1)) x (j + 1)) L-is;
-        small = inverse .1;
-        unit = ap (λ x. inverseOf p (word (hornerWords p 0 L) 0) * x % p)
-            (ap (λ x. hornerWord p 0 (D + 1 - d) x 0) (sym L-is) ∙ ap (λ n. hornerWord p 0 n (word L) 0) (sym L-long) ∙ sym (horner-words-at p 0 pos L 0))
-            ∙ ap (λ x. x % p) (mul-comm (inverseOf p (word (hornerWords p 0 L) 0)) (word (hornerWords p 0 L) 0)) ∙ inverse .0;
+        prime = h .prime;
+        small = h .small;
+        low = omega arith;
+        high = omega (arith, A-long);
+        room = omega (arith, A-long);
+        c-below = λ i l. subst (λ x. x < p) (sym (h .roots-zero i (omega arith))) some;
+        A-below = A-below;
+        values = λ l g. subst (λ c. 1 ≤ word (hornerWords p c A) 0) (sym (h .roots-zero l (omega arith))) (subst (λ x. 1 ≤ x) (sym (A-value ∙ A-first)) (h .unit));
       }
 
--- the column of `lift_column`, at the front of an array: E as it is gathered, R as it is solved
-module _ {p D N : ℕ} {f : List ℕ} {d t inverse : ℕ} {a s : List ℕ} (l : Lifting p D N f d t s) (ready : Prepared p 0 (D + 1 - d) (λ j. given D N f (d + j) 0) inverse a)
-    (zs : List ℕ) {E : List ℕ} (gathered : E ≡ tabulate (D + 1) (λ j. (given D N f j t + (p - middleSum (lowRows N d s) (highRows D N d s) j t % p)) % p)) where
-  column-length : length E ≡ D + 1
-  column-length = ap length gathered ∙ length-tabulate (D + 1) _
+-- the rows as the split leaves them
+module _ (p D N : ℕ) (f : List ℕ) (prime : Prime p) (below : AllBelow p f) (bound : order D N f ≤ D) (h w : ℕ) (s new roots A : List ℕ)
+    (b : Begun p D N f h w s) (low : 1 ≤ h) (one : 1 ≤ w) (top : w ≤ N) (roots-long : length roots ≡ order D N f) (roots-zero : (i : ℕ) → i < length roots → word roots i ≡ 0)
+    (column : A ≡ leadingColumn (order D N f) N (D + 1 - order D N f) s) (split : SplitBy p N h w roots A s new) where
+  abbrev e : ℕ
+  e = order D N f
 
-  column-front : take (D + 1) (E ++ zs) ≡ E
-  column-front = take-at E zs (D + 1) column-length
+  abbrev k : ℕ
+  k = D + 1 - order D N f
 
-  pub column-long : length (take (D + 1) (E ++ zs)) ≡ D + 1
-  column-long = ap length column-front ∙ column-length
+  abbrev P : List ℕ
+  P = split .P
 
-  pub column-below : AllBelow p (take (D + 1) (E ++ zs))
-  column-below k g =
-      subst (λ x. word x k < p) (sym column-front)
-      (subst (λ x. x < p) (sym (ap (λ x. word x k) gathered ∙ word-tabulate (D + 1) _ k (omega (arith, column-long)))) (mod-lt _ (p-pos (l .prime))))
+  whole : e + k ≡ D + 1
+  whole = omega arith
 
-  pub solve-fits : d + length a ≤ length (take (D + 1) (E ++ zs))
-  solve-fits = let b = l .bound in let q = ready .long in omega (arith, column-long)
+  done : SplitTo p N e k P A h w s new
+  done =
+      let n : length A - 1 ≡ k = ap (λ x. x - 1) (ap length column ∙ leading-long e N k s) ∙ omega arith in
+      subst (λ x. SplitTo p N x k P A h w s new) roots-long (subst (λ x. SplitTo p N (length roots) x P A h w s new) n (split .done))
 
-  pub column-fits : D + 1 ≤ length (E ++ zs)
-  column-fits = omega (arith, length-append E zs, column-length)
+  A-last : word A k ≡ 0
+  A-last = ap (λ x. word x k) column ∙ leading-last e N k s
 
-  module _ (zs′ : List ℕ) {R : List ℕ} (solved : R ≡ over (undigits p 0 (take d (digits p 0 inverse a d (take (D + 1) (E ++ zs))))) (digits p 0 inverse a d (take (D + 1) (E ++ zs)))) where
-    solved-is : R ≡ over (undigits p 0 (take d (digits p 0 inverse a d E))) (digits p 0 inverse a d E)
-    solved-is = solved ∙ ap (λ x. over (undigits p 0 (take d (digits p 0 inverse a d x))) (digits p 0 inverse a d x)) column-front
+  P-last : word P e ≡ 1
+  P-last = ap (word P) (sym roots-long) ∙ lines-last prime roots P (split .lines-low)
 
-    solution-length : length R ≡ D + 1
-    solution-length =
-        let b = l .bound in
-        let m = length-digits p 0 inverse a d E (let z = ready .long in omega (arith, column-length)) in
-        ap length solved-is
-        ∙ length-over (undigits p 0 (take d (digits p 0 inverse a d E))) (digits p 0 inverse a d E)
-        (omega (arith, length-undigits p 0 (take d (digits p 0 inverse a d E)), length-take d (digits p 0 inverse a d E)))
-        ∙ m ∙ column-length
+  first : (j : ℕ) → j < D + 1 → word new (j * N) ≡ word s (j * N)
+  first j l =
+      ⊎-elim
+      (λ (g : j < e).
+      done .first-low j g ∙ zeros-low p prime roots P roots-zero (split .lines-low) j (omega arith)
+      ∙ sym (b .first j l ∙ ap (word f) (sym (add-zero (j * N))) ∙ sym (rows-below f N (D + 1) j 0 l) ∙ order-least D N f bound j g))
+      (λ (g : e ≤ j).
+      let z : e + (j - e) ≡ j = omega arith in
+      subst (λ x. word new (x * N) ≡ word s (x * N)) z
+      (done .first-high (j - e) (omega arith) ∙ ap (λ x. word x (j - e)) column ∙ leading-at e N k s (j - e) (omega arith)))
+      (lt-or-ge j e)
 
-    pub solution-long : length (take (D + 1) (R ++ zs′)) ≡ D + 1
-    solution-long = ap length (take-at R zs′ (D + 1) solution-length) ∙ solution-length
+  low-rows : (i u : ℕ) → monic e (lowRows N e new) i u ≡ lowPoly e P N new i u
+  low-rows i u = by-place (λ i. monic e (lowRows N e new) i u ≡ lowPoly e P N new i u) e
+      (λ i l. monic-low e (lowRows N e new) i u l ∙ low-word N e new i u l
+      ∙ sym (capped-low e (word P e) (rowsFrom 0 N new) i u l ∙ ap (λ x. word new (x * N + u)) (zero-add i)))
+      (monic-top e (lowRows N e new) u ∙ sym (capped-top e (word P e) (rowsFrom 0 N new) u ∙ ap (λ x. x * unit u) P-last ∙ one-mul (unit u)))
+      (λ i l. monic-above e (lowRows N e new) i u l ∙ sym (capped-above e (word P e) (rowsFrom 0 N new) i u l)) i
 
-    pub store-fits : (length (take (D + 1) (R ++ zs′)) ≤ mostRows) × (length (take (D + 1) (R ++ zs′)) * N ≤ length s)
-    store-fits =
-        let h = l .degree-high in
-        let room = l .roomy in
-        (omega (arith, solution-long), subst (λ x. x * N ≤ length s) (sym solution-long) room)
+  high-rows : (i u : ℕ) → highRows D N e new i u ≡ highPoly e k A N new i u
+  high-rows i u = by-place (λ i. highRows D N e new i u ≡ highPoly e k A N new i u) k
+      (λ i l. high-word D N e new i u (omega arith) ∙ sym (capped-low k (word A k) (rowsFrom e N new) i u l))
+      (high-past D N e new k u (omega arith) ∙ sym (capped-top k (word A k) (rowsFrom e N new) u ∙ ap (λ x. x * unit u) A-last ∙ zero-mul (unit u)))
+      (λ i l. high-past D N e new i u (omega arith) ∙ sym (capped-above k (word A k) (rowsFrom e N new) i u l)) i
 
-    pub solution-fits : D + 1 ≤ length (R ++ zs′)
-    solution-fits = omega (arith, length-append R zs′, solution-length)
+  pub lift-split : PairWords p D N f w new
+  lift-split =
+      worked p D N f prime below bound h w s new b low one top
+      (λ i l. done .below i (let n = done .long in let z = b .long in omega arith))
+      first
+      (λ t lo hi j l. done .kept t lo hi j (omega arith))
+      (λ t lo hi j l. mul-ext p _ _ _ _ j t (λ i u _ _. low-rows i u) (λ i u _ _. high-rows i u) ∙ done .same t lo hi j (omega arith))
+      (λ t lo hi j l. done .rest t lo hi j (omega arith))
 
-    pub column-done : {s′ : List ℕ} → 1 ≤ t → t < N → ColumnStored N t (take (D + 1) (R ++ zs′)) s s′ → PairDone p D N f (t + 1) s s′
-    column-done {s′} one inside stored =
-        lift-step l one inside gathered ready solved-is (subst (λ r. ColumnStored N t r s s′) (take-at R zs′ (D + 1) solution-length) stored)
+-- the roots, at the front of an array of zeros
+pub zeros-none : (d : ℕ) → d ≤ mostRows → (i : ℕ) → i < d → word (take d zeros) i ≡ 0
+zeros-none d h i l = getD-take d zeros i 0 l ∙ getD-replicate {A = ℕ} 33 i 0 0 (omega arith)
 
--- A at X = 0, at the front of an array: as it is loaded, and as it is prepared
-module _ {p D N : ℕ} {f : List ℕ} {d t : ℕ} {s : List ℕ} (l : Lifting p D N f d t s) (zs₀ zs : List ℕ) (size : D + 1 - d ≤ length zs₀) {L : List ℕ}
-    (loaded : L ≡ tabulate (length (take (D + 1 - d) zs₀)) (λ j. word (from f (d * N)) (j * N + 0))) where
-  loaded-is : L ≡ tabulate (D + 1 - d) (λ j. word (from f (d * N)) (j * N + 0))
-  loaded-is = loaded ∙ ap (λ n. tabulate n (λ j. word (from f (d * N)) (j * N + 0))) (length-take-le (D + 1 - d) zs₀ size)
+-- as `lift` has it: d is a number that is the order, and the split works from column `from` on
+module _ (p D N : ℕ) (f : List ℕ) (d : ℕ) (g : PairGiven p D N f d) (h w : ℕ) (old s₁ s : List ℕ) (long : length old ≡ (D + 1) * N) (held : 1 ≤ h → PairWords p D N f h old)
+    (upto : h ≤ w) (one : 1 ≤ w) (top : w ≤ N) (cleared : ColumnsSet N w N (D + 1) (λ _ _. 0) old s₁) (put : ColumnsSet N h w (D + 1) (λ j t. word f (j * N + t)) s₁ s) where
+  inside : order D N f ≤ D
+  inside = subst (λ x. x ≤ D) (g .ordered) (g .bound)
 
-  front : take (D + 1 - d) (L ++ zs) ≡ L
-  front = take-at L zs (D + 1 - d) (L-long l loaded-is)
+  ready : Begun p D N f (choose (eqb h 0) 1 h) w s
+  ready = begun p D N f (g .prime) (g .f-below) inside h w old s₁ s one upto top (g .f-long) long held cleared put
 
-  pub front-long : length (take (D + 1 - d) (L ++ zs)) ≡ D + 1 - d
-  front-long = ap length front ∙ L-long l loaded-is
+  from-bounds : (1 ≤ choose (eqb h 0) 1 h) × (choose (eqb h 0) 1 h ≤ w)
+  from-bounds =
+      ⊎-elim (λ (z : h < 1). rw (eq-eqb h 0 (let e : h ≡ 0 = omega arith in e)) (omega arith, one))
+      (λ (z : 1 ≤ h). rw (ne-eqb h 0 (λ e. let y : ⊥ = omega arith in y)) (z, upto)) (lt-or-ge h 1)
 
-  pub front-fits : D + 1 - d ≤ length (L ++ zs)
-  front-fits = omega (arith, length-append L zs, L-long l loaded-is)
+  pub lift-whole : d ≡ 0 → PairWords p D N f w s
+  lift-whole e = lift-none p D N f (g .prime) (g .f-below) inside (choose (eqb h 0) 1 h) w s (sym (g .ordered) ∙ e) (from-bounds .0) one top ready
 
-  pub front-some : 1 ≤ length (take (D + 1 - d) (L ++ zs))
-  front-some = let b = l .bound in omega (arith, front-long)
+  module _ (from : ℕ) (is : from ≡ choose (eqb h 0) 1 h) (roots : List ℕ) (size : ℕ) (some : 1 ≤ d) (n : length roots ≡ d) (zeros : (i : ℕ) → i < d → word roots i ≡ 0)
+      (size-is : size ≡ D + 1 - d + 1) where
+    rows-are : d + (size - 1) ≡ D + 1
+    rows-are = let b = g .bound in omega arith
 
-  pub front-below : AllBelow p (take (D + 1 - d) (L ++ zs))
-  front-below = subst (AllBelow p) (sym front) (loaded-below l loaded-is)
+    unit-first : word s (d * N) ≢ 0
+    unit-first e =
+        let b = g .bound in
+        order-there D N f inside
+        (subst (λ x. given D N f x 0 ≡ 0) (g .ordered) (rows-below f N (D + 1) d 0 (omega arith) ∙ ap (word f) (add-zero (d * N)) ∙ sym (ready .first d (omega arith)) ∙ e))
 
-  pub front-value : 1 ≤ word (hornerWords p 0 (take (D + 1 - d) (L ++ zs))) 0
-  front-value = subst (λ x. 1 ≤ word (hornerWords p 0 x) 0) (sym front) (value-low l loaded-is)
+    pub lift-begins : PairStart p d N roots size s × SplitRoom p N from w (d + (size - 1)) s
+    lift-begins =
+        let b = g .bound in
+        let high = g .degree-high in (
+          record {
+            prime = g .prime;
+            small = g .small;
+            low = some;
+            high = omega arith;
+            room = omega arith;
+            roots-long = n;
+            roots-zero = zeros;
+            unit = ⊎-elim (λ (z : word s (d * N) < 1). absurd (unit-first (let e : word s (d * N) ≡ 0 = omega arith in e))) (λ z. z) (lt-or-ge (word s (d * N)) 1);
+          },
+          record {
+            width = g .width-high;
+            from-low = omega (arith, from-bounds .0);
+            from-high = omega (arith, from-bounds .1);
+            terms-high = top;
+            long = ready .long ∙ ap (λ x. x * N) (sym rows-are);
+            below = ready .below;
+          },
+        )
 
-  module _ (zs′ : List ℕ) {H : List ℕ} {w : ℕ} (is : w ≡ inverseOf p (word (hornerWords p 0 (take (D + 1 - d) (L ++ zs))) 0)) (made : H ≡ hornerWords p 0 (take (D + 1 - d) (L ++ zs))) where
-    H-long : length H ≡ D + 1 - d
-    H-long = ap length made ∙ length-horner p 0 _ ∙ front-long
-
-    pub rest-is : take (D + 1 - d - 1) (drop 1 (H ++ zs′)) ≡ drop 1 (hornerWords p 0 L)
-    rest-is =
-        let b = l .bound in
-        ap (take (D + 1 - d - 1)) (drop-append-le 1 H zs′ (omega (arith, H-long)))
-        ∙ take-at (drop 1 H) zs′ (D + 1 - d - 1) (length-drop 1 H ∙ ap (λ x. x - 1) H-long)
-        ∙ ap (drop 1) (made ∙ ap (hornerWords p 0) front)
-
-    pub whole-fits : D + 1 - d ≤ length (H ++ zs′)
-    whole-fits = omega (arith, length-append H zs′, H-long)
-
-    pub front-prepared : Prepared p 0 (D + 1 - d) (λ j. given D N f (d + j) 0) w (take (D + 1 - d - 1) (drop 1 (H ++ zs′)))
-    front-prepared =
-        subst (λ a. Prepared p 0 (D + 1 - d) (λ j. given D N f (d + j) 0) w a) (sym rest-is)
-        (subst (λ x. Prepared p 0 (D + 1 - d) (λ j. given D N f (d + j) 0) x (drop 1 (hornerWords p 0 L))) (sym (is ∙ ap (λ x. inverseOf p (word (hornerWords p 0 x) 0)) front))
-        (prepared l loaded-is))
-
--- the rows of f from d on
-module _ {p D N : ℕ} {f : List ℕ} {d t : ℕ} {s : List ℕ} (l : Lifting p D N f d t s) where
-  pub seam-small : d * N ≤ 8448
-  seam-small = let b = l .bound in let h = l .degree-high in few-words d N (omega arith) (l .width-high)
-
-  pub seam-inside : d * N ≤ length f
-  seam-inside = let e = l .f-long in omega (arith, split D N d (l .bound))
-
-  pub front-rows : D + 1 - d ≤ mostRows
-  front-rows = let h = l .degree-high in omega arith
-
-  pub front-low : 1 ≤ D + 1 - d
-  front-low = let b = l .bound in omega arith
-
-  pub load-fits : (zs : List ℕ) → D + 1 - d ≤ length zs → (length (take (D + 1 - d) zs) ≤ mostRows) × (length (take (D + 1 - d) zs) * N ≤ length (from f (d * N)))
-  load-fits zs size =
-      let e = length-take-le (D + 1 - d) zs size in
-      let h = l .degree-high in
-      let k = l .f-long in
-      (omega arith, subst (λ x. x * N ≤ length (from f (d * N))) (sym e) (omega (arith, split D N d (l .bound), length-from f (d * N))))
+    pub lift-ends : (A new : List ℕ) → A ≡ leadingColumn d N (size - 1) s → SplitBy p N from w roots A s new → PairWords p D N f w new
+    lift-ends A new column split =
+        let b = g .bound in
+        let e : size - 1 ≡ D + 1 - order D N f = omega (arith, g .ordered) in
+        lift-split p D N f (g .prime) (g .f-below) inside (choose (eqb h 0) 1 h) w s new roots A ready (from-bounds .0) one top (n ∙ g .ordered) (λ i l. zeros i (omega arith))
+        (column ∙ ap₂ (λ x y. leadingColumn x N y s) (g .ordered) e) (subst (λ x. SplitBy p N x w roots A s new) is split)

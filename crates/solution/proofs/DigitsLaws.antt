@@ -1,35 +1,29 @@
 -- Digits for a list of roots, and their expansion.
 -- Assumes nothing.
-use mathlib.Core.Path.{_≡_, refl, sym, ap, ap₂, subst, fun-ext, _∙_}
+use mathlib.Core.Path.{_≡_, refl, sym, ap, ap₂, subst, _∙_}
 use mathlib.Core.List.{List, _∷_}
 use Prim.Native.Nat.{ℕ, zero, suc, _+_, _-_, _*_, _%_, _≤_, _<_}
 use native.Mathlib.Numerals.{add-one}
 use native.Mathlib.Nat.{mul-comm as mul-commₙ}
 use native.Mathlib.Omega.{arith}
-use lib.ListN.{length, take, drop, set, length-append, List·getD-append, List·getD-eq-default}
+use lib.ListN.{length, take, drop, set, length-append, List·getD-append}
 use lib.Seq.{ext-getD, getD-drop, getD-take, length-take-le, drop-at, drop-cons, drop-drop}
-use Rattle.algebra.specs.internal.Ring.{add-comm, zero-add, one-mul, mul-one, zero-mul}
-use Rattle.algebra.proofs.RingLaws.{pow-zero, pow-suc}
-use Rattle.algebra.specs.internal.Series.{Series, conv}
-use Rattle.algebra.proofs.SeriesLaws.{add-at, mul-at}
+use Rattle.algebra.specs.internal.Ring.{zero-add, one-mul, zero-mul}
+use Rattle.algebra.specs.internal.Series.{Series}
 use Rattle.algebra.specs.internal.Poly.{const, lin, lines, newton}
-use Rattle.algebra.proofs.PolyLaws.{const-coeff-zero, const-coeff-suc}
 use Rattle.algebra.specs.Prime.{Prime}
 use Rattle.algebra.specs.internal.Fp.{Fp, rem}
-use Rattle.algebra.proofs.FpLaws.{p-pos, rem-add}
-use Rattle.algebra.proofs.BridgeLaws.{rem-eq, rem-zero, conv-rem}
-use Rattle.numbers.specs.Words.{word, tabulate, over}
+use Rattle.algebra.proofs.FpLaws.{p-pos}
+use Rattle.numbers.specs.Words.{word, tabulate}
 use Rattle.numbers.specs.internal.Facts.{AllBelow}
 use Rattle.numbers.specs.Divisor.{inverseOf}
-use Rattle.numbers.proofs.WordsLaws.{length-tabulate, word-tabulate, from, from-is, length-from, word-from, from-below}
+use Rattle.numbers.proofs.WordsLaws.{length-tabulate, word-tabulate, from, from-is, length-from, from-below}
 use Rattle.series.proofs.QuotientLaws.{inverse-law}
-use Rattle.rows.specs.Rows.{linePower}
-use Rattle.columns.specs.internal.Column.{hornerWord, hornerWords, digits, undigits, lineTimes, times, lowPart, highPart, Solves}
-use Rattle.columns.proofs.ColumnLaws.{Sinking, sinking-store, sinking-all, putFrom, put-from, append-below, take-below, line-below, length-line, horner-below, length-horner, horner-words-at, horner-word-rest}
-use Rattle.columns.proofs.SolveLaws.{pol-line, solve-solves}
+use Rattle.columns.specs.internal.Column.{hornerWords, digitWords, lineTimes}
+use Rattle.columns.proofs.ColumnLaws.{Sinking, sinking-store, sinking-all, putFrom, put-from, append-below, take-below, line-below, length-line, horner-below, length-horner, length-digit, digit-below}
+use Rattle.columns.proofs.SolveLaws.{pol-line, digit-divides}
 use Rattle.algebra.proofs.SolutionLaws.{lines-zero, lines-suc, newton-zero, newton-suc, newton-ext, digit-step, expand-step}
-use Rattle.rows.proofs.ShiftLaws.{root-power}
-use Rattle.solution.specs.internal.Table.{poly, plus, by, Expanded, Digits, beforeWord, nextWord}
+use Rattle.solution.specs.internal.Table.{poly, plus, by, Expanded, Digit, Digits, beforeWord, nextWord}
 
 -- words of a list whose part from i on was changed
 module _ (i : ℕ) (e y : List ℕ) (g : i ≤ length e) where
@@ -103,26 +97,6 @@ expanding-all p c q e i z h₀ =
           ∙ h .is pos;
     }
 
--- (Y − c) · B + q · A = E over the numbers below p
-pub solved-one : (p c : ℕ) → c < p → (a E R : List ℕ) → 1 ≤ length R → Solves p c 1 (word a) E R → (pos : zero < p)
-    → poly p pos (word E) ≡ plus p pos (by p pos (const (Fp p pos) (rem p pos (word R 0))) (poly p pos (word a))) (by p pos (lin (Fp p pos) (rem p pos c)) (poly p pos (word (drop 1 R))))
-solved-one p c l a E R some h pos =
-    let K = Fp p pos in
-    let B = poly p pos (highPart 1 R) in
-    let f = linePower p (p - c) 1 in
-    let line : poly p pos f ≡ lin K (rem p pos c) = root-power p pos c l 1 ∙ pow-suc (Series K) _ 0 ∙ ap (Series K .mul (lin K (rem p pos c))) (pow-zero (Series K) _) ∙ mul-one (Series K) _ in
-    let low : poly p pos (lowPart 1 R) ≡ const K (rem p pos (word R 0)) = fun-ext (elim [
-      | zero ↦ ap (rem p pos) (getD-take 1 R 0 0 (omega arith)) ∙ sym (const-coeff-zero K (rem p pos (word R 0)))
-      | suc j ↦ ap (rem p pos) (List·getD-eq-default (take 1 R) 0 (let z = length-take-le 1 R some in omega arith)) ∙ rem-zero p pos ∙ sym (const-coeff-suc K (rem p pos (word R 0)) j)
-    ]) in
-    fun-ext (λ j. sym (rem-eq p pos _ _ .1 (h .same j))
-    ∙ sym (rem-add p pos (times f (highPart 1 R) j) (times (lowPart 1 R) (word a) j))
-    ∙ ap₂ (K .add)
-    (conv-rem p pos f (highPart 1 R) j ∙ ap (λ x. conv K x B j) line ∙ sym (mul-at K (lin K (rem p pos c)) B j))
-    (conv-rem p pos (lowPart 1 R) (word a) j ∙ ap (λ x. conv K x (poly p pos (word a)) j) low ∙ sym (mul-at K (const K (rem p pos (word R 0))) (poly p pos (word a)) j))
-    ∙ add-comm K _ _
-    ∙ sym (add-at K (by p pos (const K (rem p pos (word R 0))) (poly p pos (word a))) (by p pos (lin K (rem p pos c)) B) j))
-
 pub digits-none : (p : ℕ) (c a e : List ℕ) → AllBelow p e → Digits p c a 0 e e
 digits-none p c a e b = record {
   long = refl;
@@ -135,17 +109,15 @@ digits-none p c a e b = record {
       ∙ ap₂ (plus p pos) (zero-mul (Series K) _) (one-mul (Series K) _) ∙ zero-add (Series K) _);
 }
 
-pub digits-step : (p : ℕ) (c a : List ℕ) (l : ℕ) (s e y : List ℕ) → AllBelow p c → l < length c → l < length s
-    → Digits p c a l s e → Solves p (word c l) 1 (word a) (from e l) y → Digits p c a (l + 1) s (putFrom l e y)
-digits-step p c a l s e y bc g room h z =
+pub digits-step : (p : ℕ) (c a : List ℕ) (l : ℕ) (s e y : List ℕ) → l ≤ length s → Digits p c a l s e → Digit p (word c l) a (from e l) y → Digits p c a (l + 1) s (putFrom l e y)
+digits-step p c a l s e y room h z =
     let le : l ≤ length e = let a = h .long in omega arith in
     let ny : length y ≡ length e - l = z .long ∙ length-from e l in
-    let hn = h .long in
     let d : drop (suc l) (putFrom l e y) ≡ drop 1 y = sym (ap (drop 1) (sym (put-drop l e y le)) ∙ drop-drop 1 l (putFrom l e y) ∙ ap (λ x. drop x (putFrom l e y)) (add-one l)) in
     let at : word (putFrom l e y) l ≡ word y 0 = sym (ap (λ x. word x 0) (sym (put-drop l e y le)) ∙ getD-drop l (putFrom l e y) 0 0 ∙ ap (word (putFrom l e y)) (let k : l + 0 ≡ l = omega arith in k)) in
     subst (λ x. Digits p c a x s (putFrom l e y)) (sym (add-one l)) (record {
       long = put-long l e y le ny ∙ h .long;
-      below = put-below l e y le p (h .below) (z .reduced);
+      below = put-below l e y le p (h .below) (z .below);
       is = λ pos.
           let K = Fp p pos in
           let C = poly p pos (word c) in
@@ -153,7 +125,7 @@ digits-step p c a l s e y bc g room h z =
           let D′ = poly p pos (word (putFrom l e y)) in
           let A = poly p pos (word a) in
           digit-step (Series K) (poly p pos (word s)) (newton K C D l) A (lines K C l) (poly p pos (word (drop l e))) (const K (rem p pos (word y 0))) (lin K (C l)) (poly p pos (word (drop 1 y)))
-          (h .is pos) (ap (λ x. poly p pos (word x)) (sym (from-is e l)) ∙ solved-one p (word c l) (bc l g) a (from e l) y (omega arith) z pos)
+          (h .is pos) (ap (λ x. poly p pos (word x)) (sym (from-is e l)) ∙ z .is pos)
           ∙ ap₂ (λ u v. plus p pos (by p pos (plus p pos u (by p pos (const K (rem p pos v)) (lines K C l))) A) (by p pos (by p pos (lines K C l) (lin K (C l))) (poly p pos (word (drop 1 y)))))
           (newton-ext K C l (λ i u. ap (rem p pos) (sym (put-kept l e y le i u)))) (sym at)
           ∙ ap₂ (λ u v. plus p pos (by p pos u A) (by p pos v (poly p pos (word (drop 1 y))))) (sym (newton-suc K C D′ l)) (sym (lines-suc K C l))
@@ -167,8 +139,8 @@ copied a b b′ n q =
     let g : k < length b = omega (arith, length-tabulate (length b) (λ j. word a (j * 1 + 0))) in
     word-tabulate (length b) (λ j. word a (j * 1 + 0)) k g ∙ ap (word a) (let e : k * 1 + 0 ≡ k = omega arith in e))
 
--- what the digit's calls are lent: a copied, Horner's scheme over it, and what is then solved
-module _ {p : ℕ} (prime : Prime p) (c : ℕ) (lc : c < p) (a : List ℕ) (some : 1 ≤ length a) (ba : AllBelow p a) (unit : 1 ≤ word (hornerWords p c a) 0) where
+-- what the digit's calls are lent: a copied, Horner's scheme over it, and the digit
+module _ {p : ℕ} (prime : Prime p) (c : ℕ) (a : List ℕ) (some : 1 ≤ length a) (ba : AllBelow p a) (unit : 1 ≤ word (hornerWords p c a) 0) where
   pos : zero < p
   pos = p-pos prime
 
@@ -211,24 +183,14 @@ module _ {p : ℕ} (prime : Prime p) (c : ℕ) (lc : c < p) (a : List ℕ) (some
     pub rest-below : AllBelow p (from h 1)
     rest-below = from-below p h 1 (rw h-is H-below)
 
-    pub digit-solves : (E R : List ℕ) → length a ≤ length E → AllBelow p E
-        → R ≡ over (undigits p c (take 1 (digits p c w (from h 1) 1 E))) (digits p c w (from h 1) 1 E) → Solves p c 1 (word a) E R
+    pub digit-is : (E R : List ℕ) → length a ≤ length E → R ≡ digitWords p c w (from h 1) E → Digit p c a E R
     unfolding H
-    digit-solves E R l bE r =
-        rw r (solve-solves p c (prime .two-le) lc (word a) (length a) (λ j u. List·getD-eq-default a 0 u) (from h 1) (rest-long-suc) quotient w unit-w 1 E (omega (arith, rest-long)) bE)
-      where
-        rest-long-suc : length (from h 1) + 1 ≡ length a
-        rest-long-suc = omega (arith, rest-long)
-
-        quotient : (j : ℕ) → j < length (from h 1) → word (from h 1) j ≡ hornerWord p c (length a - (j + 1)) (word a) (j + 1)
-        quotient j g =
-            word-from h 1 j ∙ ap (λ x. word x (1 + j)) h-is ∙ horner-words-at p c pos a (1 + j)
-            ∙ sym (horner-word-rest p c pos (length a) (word a) (1 + j) (λ i u. List·getD-eq-default a 0 u))
-            ∙ ap (λ x. hornerWord p c (length a - x) (word a) x) (let z : 1 + j ≡ j + 1 = omega arith in z)
-
-        unit-w : w * hornerWord p c (length a) (word a) 0 % p ≡ 1
-        unit-w =
-            ap₂ (λ x y. x * y % p) w-is (sym (horner-words-at p c pos a 0)) ∙ ap (λ x. x % p) (mul-commₙ (inverseOf p (word H 0)) (word H 0)) ∙ inverse .0
+    digit-is E R l r = rw r (record {
+      long = length-digit p c w (from h 1) E (omega (arith, rest-long));
+      below = digit-below p c w (from h 1) pos E;
+      is = λ pos′. digit-divides p pos′ c a w E (prime .two-le) l
+          (ap (λ x. x * word H 0 % p) w-is ∙ ap (λ x. x % p) (mul-commₙ (inverseOf p (word H 0)) (word H 0)) ∙ inverse .0) (from h 1) (from-is h 1 ∙ ap (drop 1) h-is);
+    })
 
 -- Y · e + q · b, from the last word down
 pub next-turn : (p q : ℕ) (b s e : List ℕ) (j : ℕ) → Sinking (nextWord p q b s) s e j → 1 < j → j ≤ length s

@@ -256,7 +256,7 @@ module _ (p N m k : ℕ) (P A T : List ℕ) (b : Bases p m k P A) (tab : Table p
     unfolding P′ A′
     column below long j l = same-rem p pos (mul-lt p _ _ j t pos) (below (j * N + t) (let z = row-fits j (m + k) N l in omega arith)) (column-rem j l)
 
-  module _ (old : List ℕ) (h : SplitTo p N m k P A t old s) (long : length s ≡ (m + k) * N) where
+  module _ (first : ℕ) (reached : first ≤ t) (old : List ℕ) (h : SplitTo p N m k P A first t old s) (long : length s ≡ (m + k) * N) where
     earlier : (u : ℕ) → u < t → (j : ℕ) → mul p (lowPoly m P N s′) (highPoly m k A N s′) j u ≡ mul p (lowPoly m P N s) (highPoly m k A N s) j u
     earlier u l j =
         mul-ext p _ _ _ _ j u
@@ -270,12 +270,13 @@ module _ (p N m k : ℕ) (P A T : List ℕ) (b : Bases p m k P A) (tab : Table p
         (λ ne. subst (λ x. x < p) (sym (kept j a u g ne)) (h .below (j * N + u) (let z = row-fits j (m + k) N a in omega arith))) (same-or-not u t))
         x (let e = st .long in omega arith)
 
-    pub split-step : SplitTo p N m k P A (t + 1) old s′
+    pub split-step : SplitTo p N m k P A first (t + 1) old s′
     split-step = record {
       long = st .long ∙ h .long;
       below = below;
       first-low = λ j l. ap (word s′) (sym (add-zeroₙ (j * N))) ∙ kept j (omega arith) 0 (omega arith) zero-ne ∙ ap (word s) (add-zeroₙ (j * N)) ∙ h .first-low j l;
       first-high = λ j l. ap (word s′) (sym (add-zeroₙ ((m + j) * N))) ∙ kept (m + j) (omega arith) 0 (omega arith) zero-ne ∙ ap (word s) (add-zeroₙ ((m + j) * N)) ∙ h .first-high j l;
+      kept = λ u lo hi j l. kept j l u (omega arith) (λ e. let z : ⊥ = omega arith in z) ∙ h .kept u lo hi j l;
       same = λ u lo hi j l. ⊎-elim
           (λ (e : u ≡ t). subst (λ x. mul p (lowPoly m P N s′) (highPoly m k A N s′) j x ≡ word old (j * N + x)) (sym e)
           (column (h .first-low) (h .first-high) (h .below) long j l ∙ h .rest t (omega arith) inside j l))
@@ -295,9 +296,10 @@ pub step-is : (p N m k : ℕ) (T : List ℕ) (t : ℕ) (s s′ E R : List ℕ) �
 step-is p N m k T t s s′ E R e r h =
     subst (λ x. ColumnStored N t x s s′) (r ∙ ap (λ y. tabulate (m + k) (λ i. weightSum T (m + k) y i % p)) e) h
 
--- the columns from 1 on are still to be split
-pub split-none : (p N m k : ℕ) (P A s : List ℕ) → AllBelow p s → ((j : ℕ) → j < m → word s (j * N) ≡ word P j) → ((j : ℕ) → j < k → word s ((m + j) * N) ≡ word A j) → SplitTo p N m k P A 1 s s
-split-none p N m k P A s b f g = record { long = refl; below = b; first-low = f; first-high = g; same = λ t lo hi. absurd (let z : ⊥ = omega arith in z); rest = λ t lo hi j l. refl }
+-- the columns from h on are still to be split
+pub split-none : (p N m k : ℕ) (P A : List ℕ) (h : ℕ) (s : List ℕ) → AllBelow p s → ((j : ℕ) → j < m → word s (j * N) ≡ word P j) → ((j : ℕ) → j < k → word s ((m + j) * N) ≡ word A j) → SplitTo p N m k P A h h s s
+split-none p N m k P A h s b f g =
+    record { long = refl; below = b; first-low = f; first-high = g; kept = λ t lo hi j l. refl; same = λ t lo hi. absurd (let z : ⊥ = omega arith in z); rest = λ t lo hi j l. refl }
 
 pub combine-room : (n : ℕ) (f : ℕ → ℕ) (E T : List ℕ) → E ≡ tabulate n f → length T ≡ n * n → length E * n ≤ length T
 combine-room n f E T e q = combine-fits n E T (ap length e ∙ length-tabulate n f) q

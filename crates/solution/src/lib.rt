@@ -3,18 +3,17 @@
 use columns::line_times;
 use columns::load_column;
 use columns::prepare;
-use columns::solve;
 use columns::start_row;
 ghost use mathlib.Core.Path.{_≡_};
 ghost use Prim.Native.Nat.{ℕ, _+_, _-_, _*_, _%_, _≤_, _<_};
-ghost use lib.ListN.{length, take, drop};
+ghost use lib.ListN.{length};
 ghost use Rattle.algebra.specs.Prime.{Prime};
 ghost use Rattle.numbers.specs.Words.{word, tabulate};
 ghost use Rattle.numbers.specs.internal.Facts.{AllBelow};
 ghost use Rattle.numbers.specs.internal.Limits.{modulusBound};
 ghost use Rattle.numbers.specs.Limits.{mostRows};
-ghost use Rattle.columns.specs.internal.Column.{hornerWords, Solves};
-ghost use Rattle.solution.specs.internal.Table.{Expanded, Digits, Solution, Table, nextWord, Lines, FirstSolution, Bases, SplitRoots};
+ghost use Rattle.columns.specs.internal.Column.{hornerWords};
+ghost use Rattle.solution.specs.internal.Table.{Expanded, Digit, Digits, Solution, Table, nextWord, Lines, FirstSolution, Bases, SplitStart};
 
 // From digits to coefficients, in place: q_0 + q_1 · (Y − c_0) + q_2 · (Y − c_0)(Y − c_1) + ..
 pub fn expand(p: u32, c: &[u32], e: &mut [u32])
@@ -33,11 +32,11 @@ fn digit(p: u32, c: u32, a: &[u32], b: &mut [u32], e: &mut [u32])
     requires { ⌜ Prime p × (p < modulusBound) × (c < p) × (1 ≤ length (now a)) × (length (now a) ≤ mostRows) × (length (now a) ≤ length (now e)) × (length (now b) ≡ length (now a))
         × AllBelow p (now a) × AllBelow p (now e) × (1 ≤ word (hornerWords p c (now a)) 0) ⌝ }
     ensures scratch { λ _. ⌜ length (now (b .exit)) ≡ length (now (b .entry)) ⌝ }
-    ensures solved { λ _. ⌜ Solves p c 1 (word (now (a .entry))) (now (e .entry)) (now (e .exit)) ⌝ }
+    ensures is { λ _. ⌜ Digit p c (now (a .entry)) (now (e .entry)) (now (e .exit)) ⌝ }
 {
     load_column(a, 1, 0, b);
     let inverse = prepare(p, c, b);
-    solve(p, c, inverse, &b[1..], 1, e);
+    columns::digit(p, c, inverse, &b[1..], e);
 }
 
 // A digit for each root.
@@ -131,28 +130,24 @@ pub fn fill_table(
     }
 }
 
-// The two products of lines, and the table of solutions for them. b and row are for scratch.
+// The product of the lines, and the table of solutions for it and a0. b and row are for scratch.
 pub fn prepare_split(
     p: u32,
     c: &[u32],
-    m: usize,
+    a0: &[u32],
     p0: &mut [u32],
-    a0: &mut [u32],
     b: &mut [u32],
     row: &mut [u32],
     table: &mut [u32],
 )
-    requires { ⌜ SplitRoots p m (now c) × (length (now p0) ≡ m + 1) × (length (now a0) ≡ length (now c) - m + 1)
-        × (length (now b) ≡ length (now c) - m + 1) × (length (now row) ≡ length (now c)) × (length (now table) ≡ length (now c) * length (now c)) ⌝ }
-    ensures low { λ _. ⌜ Lines p (take m (now (c .entry))) (now (p0 .exit)) ⌝ }
-    ensures high { λ _. ⌜ Lines p (drop m (now (c .entry))) (now (a0 .exit)) ⌝ }
+    requires { ⌜ SplitStart p (now c) (now a0) × (length (now p0) ≡ length (now c) + 1) × (length (now b) ≡ length (now a0)) × (length (now row) ≡ length (now c) + (length (now a0) - 1))
+        × (length (now table) ≡ (length (now c) + (length (now a0) - 1)) * (length (now c) + (length (now a0) - 1))) ⌝ }
+    ensures lines { λ _. ⌜ Lines p (now (c .entry)) (now (p0 .exit)) ⌝ }
     ensures size { λ _. ⌜ length (now (table .exit)) ≡ length (now (table .entry)) ⌝ }
     ensures scratch { λ _. ⌜ length (now (row .exit)) ≡ length (now (row .entry)) ⌝ }
-    ensures is { λ _. ⌜ Table p m (length (now (c .entry)) - m) (word (now (p0 .exit))) (word (now (a0 .exit))) (m + (length (now (c .entry)) - m)) (now (table .exit)) ⌝ }
+    ensures is { λ _. ⌜ Table p (length (now (c .entry))) (length (now (a0 .entry)) - 1) (word (now (p0 .exit))) (word (now (a0 .entry))) (length (now (c .entry)) + (length (now (a0 .entry)) - 1)) (now (table .exit)) ⌝ }
 {
-    let k = c.len() - m;
-    product_of(p, &c[..m], p0);
-    product_of(p, &c[m..], a0);
-    first_solution(p, &c[..m], a0, b, row);
-    fill_table(p, m, k, p0, a0, row, table);
+    product_of(p, c, p0);
+    first_solution(p, c, a0, b, row);
+    fill_table(p, c.len(), a0.len() - 1, p0, a0, row, table);
 }

@@ -1,15 +1,14 @@
 -- From roots and powers to the roots with repetition, and from the product of the factors to document 01's conditions.
 -- Assumes nothing.
 use mathlib.Core.Path.{_≡_, refl, sym, ap, ap₂, subst, _∙_}
-use mathlib.Core.Logic.{⊎-elim}
+use mathlib.Core.Logic.{⊎-elim, inl}
 use mathlib.Core.Bool.{true, false}
-use mathlib.Core.List.{List, _++_}
-use Prim.Native.Nat.{ℕ, zero, suc, _+_, _-_, _*_, _≤_, _<_, Fin}
+use mathlib.Core.List.{List}
+use Prim.Native.Nat.{ℕ, zero, suc, _+_, _*_, _≤_, _<_, Fin}
 use native.Mathlib.Nat.{eq-or-lt-of-le, not-suc-le-zero, le-of-suc-le-suc, add-zero as add-zeroₙ, zero-add as zero-addₙ}
 use native.Mathlib.Numerals.{add-one}
 use native.Mathlib.Omega.{arith}
-use lib.ListN.{length, take, drop, set, length-drop, length-append, List·getD-append}
-use lib.Seq.{getD-set-same, getD-set-other, getD-drop, getD-take, getD-append-add, length-take-le}
+use lib.ListN.{length, take, drop}
 use Rattle.algebra.specs.Sums.{sumTo}
 use Rattle.algebra.proofs.SumsLaws.{sumTo-zero, sumTo-suc, sumTo-mono}
 use Rattle.algebra.specs.internal.Ring.{prod, mul-one}
@@ -22,7 +21,7 @@ use Rattle.algebra.proofs.FpLaws.{p-pos}
 use Rattle.algebra.proofs.BridgeLaws.{same-rem, rem-one}
 use Rattle.numbers.specs.Words.{word, tabulate}
 use Rattle.numbers.specs.internal.Facts.{AllBelow}
-use Rattle.numbers.proofs.WordsLaws.{lt-or-ge, length-tabulate, word-tabulate, Writing, writing-none, true-false}
+use Rattle.numbers.proofs.WordsLaws.{lt-or-ge, length-tabulate, word-tabulate, true-false}
 use Rattle.rows.specs.Rows.{unit, monic}
 use Rattle.rows.proofs.MonicLaws.{monic-low, monic-top, monic-ext, by-place}
 use Rattle.rows.proofs.RowsLaws.{by-row, row-fits}
@@ -31,8 +30,10 @@ use Rattle.hensel.proofs.FactorsLaws.{product-rem, product-lt, factors-ext}
 use Rattle.hensel.proofs.BlocksLaws.{Block, locate}
 use Rattle.algebra.proofs.SolutionLaws.{lines-zero, lines-ext, lines-append, lines-same, lines-top}
 use Rattle.rows.proofs.ShiftLaws.{root-power}
+use Rattle.columns.specs.internal.Column.{ColumnsSet}
+use Rattle.columns.proofs.ColumnLaws.{length-lent, put, put-long, put-before, put-in}
 use Rattle.solution.specs.internal.Table.{poly, rowsFrom, Lines}
-use Rattle.split.specs.internal.Found.{Roots, NodeReady, Factored, Spread, RootsListed, SplitsAtZero, Splitting, Cleared, FactorsTo, Found}
+use Rattle.split.specs.internal.Found.{Roots, NodeReady, Factored, Spread, RootsListed, SplitsAtZero, Splitting, FactorsTo, Found}
 use Rattle.split.proofs.FactorLaws.{prod-append}
 
 module _ (roots powers c : List ℕ) (sp : Spread roots powers (length powers) c) (n : length c ≡ sumTo (length powers) (word powers)) (some : (i : ℕ) → i < length powers → 1 ≤ word powers i)
@@ -151,81 +152,44 @@ module _ (p N w : ℕ) (roots powers s : List ℕ) (h : Splitting p N w roots po
     rest = λ j l t lo hi. g .rest j (omega arith) t lo hi ∙ none j l t lo hi;
   }
 
-pub writing-start : (f : ℕ → ℕ) (s : List ℕ) → Writing (tabulate 0 f) s s
-unfolding tabulate
-writing-start f s = writing-none s
+-- where the words of a root end
+pub spread-room : (powers : List ℕ) (i a : ℕ) → i < length powers → a ≡ sumTo i (word powers) → a + word powers i ≤ sumTo (length powers) (word powers)
+spread-room powers i a l e = let z = sumTo-suc i (word powers) in let q = sumTo-mono (suc i) (length powers) (word powers) l in omega arith
 
 -- one more root is spread, by a call that was lent `len` words
 pub spread-step : (roots powers c y : List ℕ) (i a len : ℕ) → a ≡ sumTo i (word powers) → i < length powers → length c ≡ sumTo (length powers) (word powers) → len ≡ word powers i
     → y ≡ tabulate (length (take len (drop a c))) (λ _. word roots i) → Spread roots powers i c
-    → (length (take a c ++ (y ++ drop len (drop a c))) ≡ length c) × Spread roots powers (i + 1) (take a c ++ (y ++ drop len (drop a c)))
+    → (length (put a len c y) ≡ length c) × Spread roots powers (i + 1) (put a len c y)
 spread-step roots powers c y i a len ea l n el ey h =
-    let z = sumTo-suc i (word powers) in
-    let q = sumTo-mono (suc i) (length powers) (word powers) l in
-    let nt : length (take a c) ≡ a = length-take-le a c (omega arith) in
-    let np : length (take len (drop a c)) ≡ len = length-take-le len (drop a c) (omega (arith, length-drop a c)) in
+    let fits : a + len ≤ length c = omega (arith, spread-room powers i a l ea) in
+    let np = length-lent a len c fits in
     let ny : length y ≡ len = ap length ey ∙ length-tabulate (length (take len (drop a c))) _ ∙ np in (
-      length-append (take a c) _ ∙ omega (arith, nt, ny, length-append y (drop len (drop a c)), length-drop len (drop a c), length-drop a c),
+      put-long a len c y fits ny,
       λ j u x g.
           ⊎-elim
           (λ (e : j ≡ i).
           let g′ : x < len = let w = ap (word powers) e in omega arith in
-          ap (λ v. word (take a c ++ (y ++ drop len (drop a c))) (v + x)) (ap (λ v. sumTo v (word powers)) e ∙ sym ea ∙ sym nt)
-          ∙ getD-append-add (take a c) (y ++ drop len (drop a c)) x 0 ∙ List·getD-append y (drop len (drop a c)) 0 x (omega (arith, ny))
+          ap (λ v. word (put a len c y) (v + x)) (ap (λ v. sumTo v (word powers)) e ∙ sym ea) ∙ put-in a len c y fits ny x g′
           ∙ ap (λ s. word s x) ey ∙ word-tabulate (length (take len (drop a c))) _ x (omega (arith, np)) ∙ ap (word roots) (sym e))
           (λ (e : j < i).
-          let z′ = sumTo-suc j (word powers) in let q′ = sumTo-mono (suc j) i (word powers) e in
-          List·getD-append (take a c) (y ++ drop len (drop a c)) 0 (sumTo j (word powers) + x) (omega (arith, nt)) ∙ getD-take a c (sumTo j (word powers) + x) 0 (omega arith) ∙ h j e x g)
+          let z = sumTo-suc j (word powers) in let q = sumTo-mono (suc j) i (word powers) e in
+          put-before a len c y fits ny (sumTo j (word powers) + x) (omega arith) ∙ h j e x g)
           (eq-or-lt-of-le {n = j} {m = i} (omega arith)),
     )
 
 pub spread-none : (roots powers c : List ℕ) → Spread roots powers 0 c
 spread-none roots powers c i l = absurd (not-suc-le-zero l)
 
-pub spread-room : (powers : List ℕ) (i a : ℕ) → i < length powers → a ≡ sumTo i (word powers) → a + word powers i ≤ sumTo (length powers) (word powers)
-spread-room powers i a l e = let z = sumTo-suc i (word powers) in let q = sumTo-mono (suc i) (length powers) (word powers) l in omega arith
-
--- clearing the columns from w on
-pub cleared-none : (N w : ℕ) (s : List ℕ) → Cleared N w 0 s s
-cleared-none N w s = record { long = refl; kept = λ j l. absurd (not-suc-le-zero l); none = λ j l. absurd (not-suc-le-zero l); past = λ z l. refl }
-
-pub cleared-step : (N w rows j len : ℕ) (s e y : List ℕ) → w ≤ N → j < rows → length s ≡ rows * N → len ≡ N → Cleared N w j s e
-    → length y ≡ length (take len (drop (j * N) e)) → ((t : ℕ) → t < w → word y t ≡ word (take len (drop (j * N) e)) t) → ((t : ℕ) → w ≤ t → t < length (take len (drop (j * N) e)) → word y t ≡ 0)
-    → Cleared N w (j + 1) s (take (j * N) e ++ (y ++ drop len (drop (j * N) e)))
-cleared-step N w rows j len s e y top l n el h ny kept none =
-    let ne : length e ≡ rows * N = h .long ∙ n in
-    let room = row-fits j rows N l in
-    let na : length (take (j * N) e) ≡ j * N = length-take-le (j * N) e (omega arith) in
-    let np : length (take len (drop (j * N) e)) ≡ N = ap (λ x. length (take x (drop (j * N) e))) el ∙ length-take-le N (drop (j * N) e) (omega (arith, length-drop (j * N) e)) in
-    let ny′ : length y ≡ N = ny ∙ np in
-    let new = take (j * N) e ++ (y ++ drop len (drop (j * N) e)) in
-    let low : (z : ℕ) → z < j * N → word new z ≡ word e z = λ z g. List·getD-append (take (j * N) e) (y ++ drop len (drop (j * N) e)) 0 z (omega (arith, na)) ∙ getD-take (j * N) e z 0 g in
-    let at : (t : ℕ) → t < N → word new (j * N + t) ≡ word y t = λ t g. ap (λ v. word new (v + t)) (sym na) ∙ getD-append-add (take (j * N) e) (y ++ drop len (drop (j * N) e)) t 0 ∙ List·getD-append y (drop len (drop (j * N) e)) 0 t (omega (arith, ny′)) in
-    let old : (t : ℕ) → t < N → word (take len (drop (j * N) e)) t ≡ word e (j * N + t) = λ t g. getD-take len (drop (j * N) e) t 0 (omega arith) ∙ getD-drop (j * N) e t 0 in
-    record {
-      long = length-append (take (j * N) e) _ ∙ omega (arith, na, ny′, length-append y (drop len (drop (j * N) e)), length-drop len (drop (j * N) e), length-drop (j * N) e, h .long);
-      kept = λ i g t u. ⊎-elim
-          (λ (q : i ≡ j). subst (λ v. word new (v * N + t) ≡ word s (v * N + t)) (sym q) (at t (omega arith) ∙ kept t u ∙ old t (omega arith) ∙ h .past (j * N + t) (omega arith)))
-          (λ (q : i < j). low (i * N + t) (let z = row-fits i j N q in omega arith) ∙ h .kept i q t u) (eq-or-lt-of-le {n = i} {m = j} (omega arith));
-      none = λ i g t u v. ⊎-elim
-          (λ (q : i ≡ j). subst (λ x. word new (x * N + t) ≡ 0) (sym q) (at t v ∙ none t u (omega (arith, np))))
-          (λ (q : i < j). low (i * N + t) (let z = row-fits i j N q in omega arith) ∙ h .none i q t u v) (eq-or-lt-of-le {n = i} {m = j} (omega arith));
-      past = λ z g.
-          let d : (j + 1) * N ≡ j * N + N = omega arith in
-          let z′ : j * N + (N + (z - (j * N + N))) ≡ z = omega arith in
-          ap (word new) (sym z′) ∙ ap (λ v. word new (v + (N + (z - (j * N + N))))) (sym na)
-          ∙ getD-append-add (take (j * N) e) (y ++ drop len (drop (j * N) e)) (N + (z - (j * N + N))) 0
-          ∙ ap (λ v. word (y ++ drop len (drop (j * N) e)) (v + (z - (j * N + N)))) (sym ny′) ∙ getD-append-add y (drop len (drop (j * N) e)) (z - (j * N + N)) 0
-          ∙ getD-drop len (drop (j * N) e) (z - (j * N + N)) 0 ∙ getD-drop (j * N) e (len + (z - (j * N + N))) 0 ∙ ap (word e) (omega arith) ∙ h .past z (omega arith);
-    }
-
 -- what is cleared splits as before, and its factors to w terms are those of what was there
-module _ (p N w : ℕ) (roots powers s s1 : List ℕ) (h : Splitting p N w roots powers s) (cl : Cleared N w (sumTo (length powers) (word powers)) s s1) where
+module _ (p N w : ℕ) (roots powers s s1 : List ℕ) (h : Splitting p N w roots powers s) (cl : ColumnsSet N w N (sumTo (length powers) (word powers)) (λ _ _. 0) s s1) where
   abbrev DD : ℕ
   DD = sumTo (length powers) (word powers)
 
+  kept : (j : ℕ) → j < DD → (t : ℕ) → t < w → word s1 (j * N + t) ≡ word s (j * N + t)
+  kept j l t u = let z = h .listed .terms-high in cl .others j l t (omega arith) (inl u)
+
   same-f : (j : ℕ) (t : ℕ) → t < w → monic DD (rowsFrom 0 N s1) j t ≡ monic DD (rowsFrom 0 N s) j t
-  same-f j t l = monic-ext DD (rowsFrom 0 N s1) (rowsFrom 0 N s) t (λ j g. ap (λ v. word s1 (v * N + t)) (zero-addₙ j) ∙ cl .kept j g t l ∙ sym (ap (λ v. word s (v * N + t)) (zero-addₙ j))) j
+  same-f j t l = monic-ext DD (rowsFrom 0 N s1) (rowsFrom 0 N s) t (λ j g. ap (λ v. word s1 (v * N + t)) (zero-addₙ j) ∙ kept j g t l ∙ sym (ap (λ v. word s (v * N + t)) (zero-addₙ j))) j
 
   pub cleared-splitting : Splitting p N w roots powers s1
   cleared-splitting = record { listed = cleared-listed; splits = λ j l. h .splits j l ∙ sym (same-f j 0 (h .listed .terms-low)) }
@@ -247,8 +211,8 @@ module _ (p N w : ℕ) (roots powers s s1 : List ℕ) (h : Splitting p N w roots
         below = λ z l.
             let wide : 1 ≤ N = let a = h .listed .terms-low in let b = h .listed .terms-high in omega arith in
             by-row DD N (λ z. word s1 z < p) wide
-            (λ j a t g. ⊎-elim (λ (u : t < w). subst (λ v. v < p) (sym (cl .kept j a t u)) (h .listed .below (j * N + t) (let y = row-fits j DD N a in let e = h .listed .long in omega arith)))
-            (λ (u : w ≤ t). subst (λ v. v < p) (sym (cl .none j a t u g)) (p-pos (h .listed .prime))) (lt-or-ge t w)) z (let e = h .listed .long in let c = cl .long in omega arith);
+            (λ j a t g. ⊎-elim (λ (u : t < w). subst (λ v. v < p) (sym (kept j a t u)) (h .listed .below (j * N + t) (let y = row-fits j DD N a in let e = h .listed .long in omega arith)))
+            (λ (u : w ≤ t). subst (λ v. v < p) (sym (cl .set j a t u g)) (p-pos (h .listed .prime))) (lt-or-ge t w)) z (let e = h .listed .long in let c = cl .long in omega arith);
       }
 
   pub cleared-factors : (new : List ℕ) → FactorsTo p N w roots powers s1 new → FactorsTo p N w roots powers s new
@@ -258,18 +222,6 @@ module _ (p N w : ℕ) (roots powers s s1 : List ℕ) (h : Splitting p N w roots
     factors = factors-ext p DD w (length powers) _ _ (word roots) (word roots) (word powers) (word powers) _ _ (h .listed .terms-low) (λ j l t u. sym (same-f j t u)) (λ i l. refl) (λ i l. refl) (λ i l j u t v. refl) (g .factors);
     rest = g .rest;
   }
-
-pub clear-kept : (w t : ℕ) (s e : List ℕ) → w ≤ t → ((i : ℕ) → i < w → word e i ≡ word s i) → (i : ℕ) → i < w → word (set e t 0) i ≡ word s i
-clear-kept w t s e g h i l = getD-set-other e t i 0 0 (λ q. let z : ⊥ = omega arith in z) ∙ h i l
-
-pub clear-none : (w t : ℕ) (e : List ℕ) → t < length e → ((i : ℕ) → w ≤ i → i < t → word e i ≡ 0) → (i : ℕ) → w ≤ i → i < t + 1 → word (set e t 0) i ≡ 0
-clear-none w t e g h i lo hi =
-    ⊎-elim (λ (q : i ≡ t). ap (word (set e t 0)) q ∙ getD-set-same e t 0 0 g) (λ (u : i < t). getD-set-other e t i 0 0 (λ q. let z : ⊥ = omega arith in z) ∙ h i lo u) (eq-or-lt-of-le {n = i} {m = t} (omega arith))
-
-pub lent-row : (N rows j len : ℕ) (e : List ℕ) → j < rows → length e ≡ rows * N → len ≡ N → length (take len (drop (j * N) e)) ≡ N
-lent-row N rows j len e l n q =
-    let z = row-fits j rows N l in
-    ap (λ x. length (take x (drop (j * N) e))) q ∙ length-take-le N (drop (j * N) e) (omega (arith, length-drop (j * N) e))
 
 -- The product of the lines of all roots, as words, is the product of the powers.
 module _ (p N w : ℕ) (roots powers s : List ℕ) (h : RootsListed p N w roots powers s) (c : List ℕ) (n : length c ≡ sumTo (length powers) (word powers))

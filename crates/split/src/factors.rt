@@ -1,14 +1,16 @@
 // The factors of a polynomial: its roots are split in two near half the degree, until each stands alone with its power.
 use crate::node::split_node;
+use columns::clear;
+use columns::repeat;
 use solution::product_of;
 ghost use mathlib.Core.Path.{_≡_};
 ghost use Prim.Native.Nat.{ℕ, _+_, _-_, _*_, _≤_, _<_};
 ghost use lib.ListN.{length};
 ghost use Rattle.algebra.specs.Sums.{sumTo};
 ghost use Rattle.numbers.specs.internal.Facts.{Decides};
-ghost use Rattle.numbers.specs.Words.{word, tabulate};
+ghost use Rattle.numbers.specs.Words.{word};
 ghost use Rattle.numbers.specs.Limits.{largestDegree, mostRows, largestWidth};
-ghost use Rattle.split.specs.internal.Found.{NodeReady, Factored, Spread, Cleared, RootsListed, Found};
+ghost use Rattle.split.specs.internal.Found.{NodeReady, Factored, Spread, RootsListed, Found};
 
 // The sum of the powers.
 fn total(powers: &[u32]) -> usize
@@ -57,17 +59,6 @@ fn factor_rows(p: u32, powers: &[u32], c: &[u32], n: usize, w: usize, rows: &mut
     factor_rows(p, &powers[mid..], &c[m..], n, w, &mut rows[seam..]);
 }
 
-// One word, over and over.
-fn repeat(x: u32, out: &mut [u32])
-    ensures { λ _. ⌜ now (out .exit) ≡ tabulate (length (now (out .entry))) (λ _. x) ⌝ }
-{
-    let mut i = 0;
-    while i < out.len() {
-        out[i] = x;
-        i += 1;
-    }
-}
-
 // The roots, each as often as its power says.
 fn spread(roots: &[u32], powers: &[u32], c: &mut [u32])
     requires { ⌜ (length (now roots) ≡ length (now powers)) × (sumTo (length (now powers)) (word (now powers)) ≤ largestDegree) × (length (now c) ≡ sumTo (length (now powers)) (word (now powers))) ⌝ }
@@ -81,34 +72,6 @@ fn spread(roots: &[u32], powers: &[u32], c: &mut [u32])
         repeat(roots[i], &mut c[a..e]);
         a = e;
         i += 1;
-    }
-}
-
-// 0 from word w on.
-fn clear_row(w: usize, row: &mut [u32])
-    requires { ⌜ w ≤ length (now row) ⌝ }
-    ensures long { λ _. ⌜ length (now (row .exit)) ≡ length (now (row .entry)) ⌝ }
-    ensures kept { λ _. ⌜ ((t : ℕ) → t < w → word (now (row .exit)) t ≡ word (now (row .entry)) t) ⌝ }
-    ensures none { λ _. ⌜ ((t : ℕ) → w ≤ t → t < length (now (row .entry)) → word (now (row .exit)) t ≡ 0) ⌝ }
-{
-    let mut t = w;
-    while t < row.len() {
-        row[t] = 0;
-        t += 1;
-    }
-}
-
-// 0 from column w on, in every row.
-fn clear(n: usize, w: usize, d: usize, rows: &mut [u32])
-    requires { ⌜ (w ≤ n) × (n ≤ largestWidth) × (d ≤ mostRows) × (length (now rows) ≡ d * n) ⌝ }
-    ensures { λ _. ⌜ Cleared n w d (now (rows .entry)) (now (rows .exit)) ⌝ }
-{
-    let mut j = 0;
-    while j < d {
-        let a = j * n;
-        let e = a + n;
-        clear_row(w, &mut rows[a..e]);
-        j += 1;
     }
 }
 

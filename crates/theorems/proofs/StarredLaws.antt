@@ -13,6 +13,7 @@ use Rattle.numbers.proofs.RefusalsLaws.{take-check, modulus-fine, modulus-compo
 use Rattle.rows.specs.Rows.{rowsOf, rowsBelow, mul, linePower, monic}
 use Rattle.pair.specs.Pair.{orderOf}
 use Rattle.pair.specs.Test.{productTest, pairTest}
+use Rattle.pair.specs.Paired.{held}
 use Rattle.hensel.specs.Factors.{product}
 use Rattle.sheet.specs.Test.{primeTest, factorsTest, headerTest, bodyTest, soundTest}
 use Rattle.open.specs.Open.{upwards, choices, find, splitsTest, powersOf, needed, openVerdict}
@@ -36,5 +37,5 @@ out-of-range : judge (modulusChecks 16777216) ≡ Refuse (refusal 1 0)
 out-of-range = take-check (check 1 (outside 2 largestModulus 16777216) 0) _ refl
 
 pub starred : Starred
-unfolding judge leastDivisor firstWhere firstLarge allTo all sumTo rowsOf mul monic orderOf rowsBelow productTest pairTest linePower product primeTest factorsTest headerTest bodyTest soundTest upwards choices find splitsTest powersOf needed openVerdict extendVerdict number isWide fieldsFrom fieldSize field jobGiven listVerdict listingText headLine rootLine rowLine rowLines factorText joinTo tabulate digits digitsWithin numbersText moreNumbers
-starred = (refl, refl, refl, refl, refl, refl, refl, refl, refl, refl, refl, refl, refl, refl, refl, refl, refl, refl, refl, refl, refl, refl, refl, refl, refl, largest-prime, largest-composite, out-of-range, refl, refl, refl, refl, refl, refl)
+unfolding judge leastDivisor firstWhere firstLarge allTo all sumTo rowsOf mul monic orderOf rowsBelow productTest pairTest held linePower product primeTest factorsTest headerTest bodyTest soundTest upwards choices find splitsTest powersOf needed openVerdict extendVerdict number isWide fieldsFrom fieldSize field jobGiven listVerdict listingText headLine rootLine rowLine rowLines factorText joinTo tabulate digits digitsWithin numbersText moreNumbers
+starred = (refl, refl, refl, refl, refl, refl, refl, refl, refl, refl, refl, refl, refl, refl, refl, refl, refl, refl, refl, refl, refl, refl, refl, refl, refl, refl, refl, largest-prime, largest-composite, out-of-range, refl, refl, refl, refl, refl, refl)

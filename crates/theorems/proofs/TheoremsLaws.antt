@@ -2,7 +2,7 @@
 -- Assumes nothing.
 use Prim.Native.Nat.{ℕ, zero, suc, _+_, _<_}
 use native.Mathlib.Omega.{arith}
-use mathlib.Core.Path.{_≡_, refl, sym, _∙_, ap, subst}
+use mathlib.Core.Path.{_≡_, refl, sym, _∙_, ap}
 use mathlib.Core.List.{List, [], _∷_}
 use lib.ListN.{length}
 use lib.Seq.{ext-getD, take-all}
@@ -12,20 +12,17 @@ use Rattle.algebra.specs.Prime.{Prime}
 use Rattle.algebra.proofs.FpLaws.{p-pos}
 use Rattle.numbers.specs.Words.{word, tabulate}
 use Rattle.numbers.specs.internal.Facts.{AllBelow}
-use Rattle.numbers.specs.Refusals.{judge, accepted, result, operationChecks, inputChecks, beyondCheck, Leaves}
+use Rattle.numbers.specs.Refusals.{operationChecks, inputChecks}
 use Rattle.numbers.specs.One.{TheOne}
-use Rattle.numbers.specs.declared.refusal.Verdict.the-variants.{Pass}
 use Rattle.numbers.proofs.WordsLaws.{length-tabulate, word-tabulate}
-use Rattle.numbers.proofs.RefusalsLaws.{operation-pass, inputs-pass, pass-parts, pass-check, after-pass, skip-check, none-judged, reduced, accepted-pass, below-reduced}
+use Rattle.numbers.proofs.RefusalsLaws.{operation-pass, inputs-pass, pass-parts, pass-check, reduced, below-reduced}
 use Rattle.series.specs.Series.{seriesChecks, productColumn, product, quotient}
 use Rattle.series.proofs.SeriesLaws.{length-quotient, quotient-below}
 use Rattle.series.proofs.QuotientLaws.{inverse-law, quotient-product, quotient-unique}
 use Rattle.rows.specs.Rows.{unit}
 use Rattle.rows.proofs.ShiftLaws.{row-shift-back, row-shift-product}
-use Rattle.pair.specs.Pair.{order}
-use Rattle.pair.specs.Paired.{firstChecks, pairChecks, continueChecks, PairDone, Paired, Continued}
 use Rattle.pair.proofs.PairWordsLaws.{pair-test}
-use Rattle.pair.proofs.OneLaws.{paired-one, continued-one, continued-keeps}
+use Rattle.pair.proofs.OneLaws.{paired-one, paired-afresh, paired-keeps, paired-goes}
 use Rattle.sheet.proofs.SoundTestLaws.{sound-test}
 use Rattle.open.specs.Open.{needed}
 use Rattle.open.proofs.OpeningLaws.{open-ready, sheet-exists}
@@ -38,29 +35,12 @@ use Rattle.job.proofs.JobLaws.{narrow-reads}
 use Rattle.listing.proofs.ListingLaws.{one-listing, listed-only, listing-cut}
 use Rattle.theorems.specs.Theorems.{IsSeries, PairTheorems, SheetTheorems, CallTheorems, RowTheorems, Theorems}
 
--- the checks of continuing are those of starting, and two more
-continue-starts : (p D N : ℕ) (f : List ℕ) (h w : ℕ) (old : List ℕ) → judge (continueChecks p D N f h w old) ≡ Pass → judge (pairChecks p D N f w (length old)) ≡ Pass
-continue-starts p D N f h w old e =
-    let m = pass-parts (firstChecks p D N f (length old)) _ e in
-    let s = pass-check _ _ (m .1) in
-    let b = pass-check (beyondCheck N w) _ (s .1) in
-    after-pass (firstChecks p D N f (length old)) (beyondCheck N w ∷ []) (m .0) ∙ skip-check (beyondCheck N w) [] (b .0) ∙ none-judged
-
-continued-pair : (p D N : ℕ) (f : List ℕ) (h w : ℕ) (old : List ℕ) (d : ℕ) (new : List ℕ) → Continued p D N f h w old (accepted d) new → Paired p D N f w old (accepted d) new
-continued-pair p D N f h w old d new x =
-    let e = accepted-pass (judge (continueChecks p D N f h w old)) (order D N f) d (x .answers) .0 in
-    let s = continue-starts p D N f h w old e in
-    record {
-      answers = x .answers ∙ ap (λ v. result v (order D N f)) (e ∙ sym s);
-      leaves = subst (λ v. Leaves v (PairDone p D N f w old new) old new) (sym s) (subst (λ v. Leaves v (PairDone p D N f w old new) old new) e (x .leaves));
-    }
-
 pair-theorems : PairTheorems
 pair-theorems = record {
   pair-one = paired-one;
-  continued-one = continued-one;
-  continued-pair = continued-pair;
-  continued-keeps = continued-keeps;
+  pair-afresh = paired-afresh;
+  pair-keeps = paired-keeps;
+  pair-goes = paired-goes;
   pair-test = λ p D N f k s prime bound one. pair-test p D N f prime bound k one s;
 }
 

@@ -82,15 +82,18 @@ Starred =
     × (powersOf double ≡ some (2 ∷ 1 ∷ []))
     × (soundTest double-sheet ≡ true)
     -- p = 5, N = 4, X + Y + Y²: order 1, b_0 = 0 1 1 2, c_0 = 1 4 4 3, c_1 = 1 0 0 0
-    × (judge (pairChecks 5 2 4 pair1 4 12) ≡ Pass)
+    × (judge (pairChecks 5 2 4 pair1 0 4 pair1) ≡ Pass)
     × (order 2 4 pair1 ≡ 1)
     × (pairTest 5 2 4 pair1 4 (0 ∷ 1 ∷ 1 ∷ 2 ∷ 1 ∷ 4 ∷ 4 ∷ 3 ∷ 1 ∷ 0 ∷ 0 ∷ 0 ∷ []) ≡ true)
+    -- its first two terms can be continued; with the others besides they are not its first two
+    × (judge (pairChecks 5 2 4 pair1 2 4 (0 ∷ 1 ∷ 0 ∷ 0 ∷ 1 ∷ 4 ∷ 0 ∷ 0 ∷ 1 ∷ 0 ∷ 0 ∷ 0 ∷ [])) ≡ Pass)
+    × (judge (pairChecks 5 2 4 pair1 2 4 (0 ∷ 1 ∷ 1 ∷ 2 ∷ 1 ∷ 4 ∷ 4 ∷ 3 ∷ 1 ∷ 0 ∷ 0 ∷ 0 ∷ [])) ≡ Refuse (refusal 13 0))
     -- p = 5, N = 2, 2Y + X: b_0 = 0 3, c_0 = 2 0
-    × (judge (pairChecks 5 1 2 pair2 2 4) ≡ Pass)
+    × (judge (pairChecks 5 1 2 pair2 0 2 pair2) ≡ Pass)
     × (order 1 2 pair2 ≡ 1)
     × (pairTest 5 1 2 pair2 2 (0 ∷ 3 ∷ 2 ∷ 0 ∷ []) ≡ true)
     -- p = 5, N = 1, 1 + Y: order 0, c_0 = 1, c_1 = 1
-    × (judge (pairChecks 5 1 1 pair3 1 2) ≡ Pass)
+    × (judge (pairChecks 5 1 1 pair3 0 1 pair3) ≡ Pass)
     × (order 1 1 pair3 ≡ 0)
     × (pairTest 5 1 1 pair3 1 (1 ∷ 1 ∷ []) ≡ true)
     -- p = 7, Y² − 1, roots 1 alone: 9
@@ -109,6 +112,6 @@ Starred =
     × (extendVerdict (job-sheet 1 (6 ∷ 0 ∷ 0 ∷ 1 ∷ 0 ∷ 0 ∷ [])) 4 ≡ Refuse (refusal 14 0))
     × (extendVerdict (job-sheet 1 (6 ∷ 0 ∷ 0 ∷ 1 ∷ 0 ∷ 0 ∷ [])) 0 ≡ Refuse (refusal 14 0))
     -- and so for the pair
-    × (judge (pairChecks 5 2 4 pair1 4 12) ≡ Pass)
-    × (judge (pairChecks 5 2 4 pair1 5 12) ≡ Refuse (refusal 14 0))
-    × (judge (pairChecks 5 2 4 pair1 0 12) ≡ Refuse (refusal 14 0))
+    × (judge (pairChecks 5 2 4 pair1 0 4 pair1) ≡ Pass)
+    × (judge (pairChecks 5 2 4 pair1 0 5 pair1) ≡ Refuse (refusal 14 0))
+    × (judge (pairChecks 5 2 4 pair1 0 0 pair1) ≡ Refuse (refusal 14 0))

@@ -18,7 +18,7 @@ use Rattle.series.specs.Series.{inverseChecks, quotientChecks, product, quotien
 use Rattle.rows.specs.Rows.{shiftChecks, rowProduct, rowShift, unit}
 use Rattle.pair.specs.Pair.{order, PairWords}
 use Rattle.pair.specs.Test.{pairTest}
-use Rattle.pair.specs.Paired.{Paired, Continued}
+use Rattle.pair.specs.Paired.{Paired}
 use Rattle.sheet.specs.Sheet.{Sound, Given, given-reach, Holds}
 use Rattle.sheet.specs.Test.{soundTest}
 use Rattle.open.specs.Open.{needed, openVerdict, Opened}
@@ -35,13 +35,15 @@ IsSeries p N s = (length s ≡ N) × (unreduced p s ≡ false)
 -- The Weierstrass pair.
 pub record PairTheorems : Type 0 where
   -- The pair to w terms exists and is the only one: every call has exactly one outcome, refused or accepted, to the last word.
-  pub pair-one : (p D N : ℕ) (f : List ℕ) (w : ℕ) (old : List ℕ) → OneOutcome (Paired p D N f w old)
-  pub continued-one : (p D N : ℕ) (f : List ℕ) (h w : ℕ) (old : List ℕ) → OneOutcome (Continued p D N f h w old)
+  pub pair-one : (p D N : ℕ) (f : List ℕ) (h w : ℕ) (old : List ℕ) → OneOutcome (Paired p D N f h w old)
   -- A pair that is continued is the pair started afresh.
-  pub continued-pair : (p D N : ℕ) (f : List ℕ) (h w : ℕ) (old : List ℕ) (d : ℕ) (new : List ℕ) → Continued p D N f h w old (accepted d) new → Paired p D N f w old (accepted d) new
+  pub pair-afresh : (p D N : ℕ) (f : List ℕ) (h w : ℕ) (old : List ℕ) (d : ℕ) (new : List ℕ) → Paired p D N f h w old (accepted d) new → Paired p D N f 0 w old (accepted d) new
   -- Continuing changes columns h..w − 1 of the D + 1 rows and no other word.
-  pub continued-keeps : (p D N : ℕ) (f : List ℕ) (h w : ℕ) (old : List ℕ) (answer : Outcome ℕ) (new : List ℕ) → Continued p D N f h w old answer new
+  pub pair-keeps : (p D N : ℕ) (f : List ℕ) (h w : ℕ) (old : List ℕ) → 1 ≤ h → (answer : Outcome ℕ) (new : List ℕ) → Paired p D N f h w old answer new
       → (i : ℕ) → ¬ ((i < (D + 1) * N) × (h ≤ i % N) × (i % N < w)) → word new i ≡ word old i
+  -- Where going from g to w is accepted (g = 0 is a start), going to h and then to w gives the same answer and leaves the same words.
+  pub pair-goes : (p D N : ℕ) (f : List ℕ) (g h w : ℕ) (old : List ℕ) (d : ℕ) (new : List ℕ) (a b : Outcome ℕ) (mid last : List ℕ) → 1 ≤ h → g ≤ h → h ≤ w
+      → Paired p D N f g w old (accepted d) new → Paired p D N f g h old a mid → Paired p D N f h w mid b last → (b ≡ accepted d) × (last ≡ new)
   -- The test behind refusal 13 is the pair's conditions.
   pub pair-test : (p D N : ℕ) (f : List ℕ) (k : ℕ) (s : List ℕ) → Prime p → order D N f ≤ D → 1 ≤ k → (pairTest p D N f k s ≡ true) ↔ PairWords p D N f k s
 

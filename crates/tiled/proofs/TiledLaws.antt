@@ -1,15 +1,15 @@
 -- The columns of a split by tiles: what the sums add up, and that what stands beside the rows keeps up with them.
 -- Assumes nothing.
-use mathlib.Core.Path.{_≡_, sym, ap, ap₂, subst, _∙_}
+use mathlib.Core.Path.{_≡_, refl, sym, ap, ap₂, subst, _∙_}
 use mathlib.Core.Logic.{⊎-elim, _⊎_, inl, inr}
-use mathlib.Core.List.{List, _++_}
+use mathlib.Core.List.{List}
 use Prim.Native.Nat.{ℕ, _+_, _-_, _*_, _/_, _%_, _≤_, _<_}
-use native.Mathlib.Nat.{div-add-mod', mod-lt, mul-le-mul, eq-or-lt-of-le, add-zero, add-mul, mul-zero}
+use native.Mathlib.Nat.{div-add-mod', mod-lt, mul-le-mul, eq-or-lt-of-le, add-zero, zero-add, add-mul, mul-zero}
 use native.Mathlib.Omega.{arith}
 use lib.Dec.{ltb}
 use borrow.Author.Tests.{lt-ltb, le-ltb, le-leb, lt-leb}
-use lib.ListN.{length, take, drop, replicate, length-append, length-take, length-drop, length-replicate, getD-replicate, List·getD-append, List·getD-eq-default}
-use lib.Seq.{ext-getD, getD-append-add, getD-drop, getD-take, length-take-le}
+use lib.ListN.{length, take, drop, replicate, length-take, length-drop, length-replicate, getD-replicate, List·getD-eq-default}
+use lib.Seq.{ext-getD, getD-drop, getD-take, length-take-le}
 use Rattle.algebra.specs.Sums.{sumTo}
 use Rattle.algebra.proofs.SumsLaws.{sumTo-zero, sumTo-ext, sumTo-bound, sumTo-zeros, sumTo-append}
 use Rattle.numbers.specs.Words.{word, choose, tabulate}
@@ -22,38 +22,13 @@ use Rattle.rows.specs.Rows.{rowsOf}
 use Rattle.rows.specs.internal.Passes.{weightSum}
 use Rattle.rows.proofs.RowsLaws.{rows-below, rows-past, passTerm, pass-all, by-row, row-fits}
 use Rattle.columns.specs.internal.Column.{middleSum, ColumnStored}
+use Rattle.columns.proofs.ColumnLaws.{put, put-long, put-before, put-in, put-past}
+use Rattle.columns.proofs.SolveLaws.{pass-ext, pass-turn}
 use Rattle.solution.specs.internal.Table.{leftAt}
 use Rattle.tiles.specs.internal.Tile.{tileAt, tileRow, TilePut}
-use Rattle.tiled.specs.internal.Tiled.{laneSum, laneTerm, tileSums, Tiled, Sizes, Room}
+use Rattle.tiled.specs.internal.Tiled.{laneSum, laneTerm, tileSums, Tiled, ColumnPut, Beside, Sizes, Room}
 use Rattle.tiles.proofs.TileLaws.{word-fits, lane}
 use Rattle.solution.proofs.StepLaws.{same-or-not, left-below}
-
--- the words of a list, part of which a call wrote anew
-abbrev pub put : (a len : ℕ) (s y : List ℕ) → List ℕ
-put a len s y = take a s ++ (y ++ drop len (drop a s))
-
-module _ (a len : ℕ) (s y : List ℕ) (fits : a + len ≤ length s) (ny : length y ≡ len) where
-  front : length (take a s) ≡ a
-  front = length-take-le a s (omega arith)
-
-  pub put-long : length (put a len s y) ≡ length s
-  put-long = length-append (take a s) _ ∙ omega (arith, front, length-append y (drop len (drop a s)), length-drop len (drop a s), length-drop a s)
-
-  pub put-before : (z : ℕ) → z < a → word (put a len s y) z ≡ word s z
-  put-before z l = List·getD-append (take a s) (y ++ drop len (drop a s)) 0 z (omega (arith, front)) ∙ getD-take a s z 0 l
-
-  inner : (i : ℕ) → word (put a len s y) (a + i) ≡ word (y ++ drop len (drop a s)) i
-  inner i = ap (λ v. word (put a len s y) (v + i)) (sym front) ∙ getD-append-add (take a s) (y ++ drop len (drop a s)) i 0
-
-  pub put-in : (i : ℕ) → i < len → word (put a len s y) (a + i) ≡ word y i
-  put-in i l = inner i ∙ List·getD-append y (drop len (drop a s)) 0 i (omega arith)
-
-  pub put-past : (z : ℕ) → a + len ≤ z → word (put a len s y) z ≡ word s z
-  put-past z l =
-      let i = z - (a + len) in
-      let e : a + (len + i) ≡ z = omega arith in
-      ap (word (put a len s y)) (sym e) ∙ inner (len + i) ∙ ap (λ v. word (y ++ drop len (drop a s)) (v + i)) (sym ny)
-      ∙ getD-append-add y (drop len (drop a s)) i 0 ∙ getD-drop len (drop a s) i 0 ∙ getD-drop a s (len + i) 0 ∙ ap (word s) e
 
 -- what a row adds to a sum
 module _ (t N lanes : ℕ) (pairs tiles : List ℕ) where
@@ -156,51 +131,79 @@ cut n k f l h =
     ap (λ v. sumTo v f) (sym e) ∙ sumTo-append n (k - n) f ∙ ap (λ v. sumTo n f + v) z ∙ add-zero _
 
 -- the sums are those of the rows
-module _ (N m k blocks t : ℕ) (s pairs tiles : List ℕ) (h : Tiled N m k blocks t s pairs tiles) (one : 1 ≤ t) (inside : t < N) (enough : k ≤ 8 * blocks) where
-  abbrev term : ℕ → ℕ → ℕ
-  term j = passTerm (rowsOf (take (m * N) s) N m) (rowsOf (drop (m * N) s) N k) j 1 (t - 1)
+module _ (N a m b k blocks t : ℕ) (s pairs tiles : List ℕ) (h : Tiled N a m b k blocks t s pairs tiles) (one : 1 ≤ t) (inside : t < N) (enough : k ≤ 8 * blocks) where
+  abbrev P : ℕ → ℕ → ℕ
+  P = rowsOf (drop (a * N) s) N m
 
-  low-is : (a u : ℕ) → a < m → u < t - 1 → (l : ℕ) → l < 2 → word pairs (a * (2 * N) + (2 * (u + 1) + l)) ≡ rowsOf (take (m * N) s) N m a (1 + u)
-  low-is a u l g x y =
-      h .low a l (u + 1) (omega arith) (omega arith) x y ∙ ap (λ v. word s (a * N + v)) (let e : u + 1 ≡ 1 + u = omega arith in e)
-      ∙ sym (rows-below (take (m * N) s) N m a (1 + u) l ∙ getD-take (m * N) s (a * N + (1 + u)) 0 (let z = row-fits a m N l in omega arith))
+  abbrev A : ℕ → ℕ → ℕ
+  A = rowsOf (drop (b * N) s) N k
 
-  high-is : (i u : ℕ) → i < 8 * blocks → u < t - 1 → tileAt N tiles (t - (u + 1)) i ≡ rowsOf (drop (m * N) s) N k i (1 + (t - 1 - (u + 1)))
+  row-at : (c n i u : ℕ) → i < n → word s ((c + i) * N + u) ≡ rowsOf (drop (c * N) s) N n i u
+  row-at c n i u l =
+      ap (word s) (let e = add-mul c i N in let z : (c + i) * N + u ≡ c * N + (i * N + u) = omega arith in z)
+      ∙ sym (rows-below (drop (c * N) s) N n i u l ∙ getD-drop (c * N) s (i * N + u) 0)
+
+  low-is : (i u : ℕ) → i < m → u < t - 1 → (l : ℕ) → l < 2 → word pairs (i * (2 * N) + (2 * (u + 1) + l)) ≡ P i (1 + u)
+  low-is i u l g x y =
+      h .low i l (u + 1) (omega arith) (omega arith) x y ∙ ap (λ v. word s ((a + i) * N + v)) (let e : u + 1 ≡ 1 + u = omega arith in e) ∙ row-at a m i (1 + u) l
+
+  high-is : (i u : ℕ) → i < 8 * blocks → u < t - 1 → tileAt N tiles (t - (u + 1)) i ≡ A i (1 + (t - 1 - (u + 1)))
   high-is i u l g =
       let v : t - (u + 1) ≡ 1 + (t - 1 - (u + 1)) = omega arith in
-      h .high (t - (u + 1)) (omega arith) (omega arith) i l ∙ ap (λ x. choose (ltb i k) (word s ((m + i) * N + x)) 0) v
-      ∙ ⊎-elim
-      (λ (b : i < k). rw (lt-ltb i k b)
-      (ap (word s) (let e = add-mul m i N in let z : (m + i) * N + (1 + (t - 1 - (u + 1))) ≡ m * N + (i * N + (1 + (t - 1 - (u + 1)))) = omega arith in z)
-      ∙ sym (rows-below (drop (m * N) s) N k i (1 + (t - 1 - (u + 1))) b ∙ getD-drop (m * N) s (i * N + (1 + (t - 1 - (u + 1)))) 0)))
-      (λ (b : k ≤ i). rw (le-ltb i k b) (sym (rows-past (drop (m * N) s) N k i (1 + (t - 1 - (u + 1))) b)))
-      (lt-or-ge i k)
+      h .high (t - (u + 1)) (omega arith) (omega arith) i l ∙ ap (λ x. choose (ltb i k) (word s ((b + i) * N + x)) 0) v
+      ∙ ⊎-elim (λ (c : i < k). rw (lt-ltb i k c) (row-at b k i (1 + (t - 1 - (u + 1))) c))
+      (λ (c : k ≤ i). rw (le-ltb i k c) (sym (rows-past (drop (b * N) s) N k i (1 + (t - 1 - (u + 1))) c))) (lt-or-ge i k)
 
-  term-is : (j a : ℕ) → a < m → a ≤ j → laneTerm t N (8 * blocks) pairs tiles j a ≡ term j a
+  term-is : (j i : ℕ) → i < m → i ≤ j → laneTerm t N (8 * blocks) pairs tiles j i ≡ passTerm P A j 1 (t - 1) i
   unfolding laneSum
-  term-is j a l g =
+  term-is j i l g =
       ⊎-elim
-      (λ (b : j - a < 8 * blocks). term-in t N (8 * blocks) pairs tiles j a g b ∙ sumTo-ext (t - 1) (λ u z. ap₂ _*_ (low-is a u l z ((j - a) % 2) (lane (j - a))) (high-is (j - a) u b z)))
-      (λ (b : 8 * blocks ≤ j - a).
-      term-past t N (8 * blocks) pairs tiles j a g b
-      ∙ sym (sumTo-zeros (t - 1) _ (λ u _. ap (λ x. rowsOf (take (m * N) s) N m a (1 + u) * x) (rows-past (drop (m * N) s) N k (j - a) (1 + (t - 1 - (u + 1))) (omega arith)) ∙ mul-zero _)))
-      (lt-or-ge (j - a) (8 * blocks))
+      (λ (c : j - i < 8 * blocks). term-in t N (8 * blocks) pairs tiles j i g c ∙ sumTo-ext (t - 1) (λ u z. ap₂ _*_ (low-is i u l z ((j - i) % 2) (lane (j - i))) (high-is (j - i) u c z)))
+      (λ (c : 8 * blocks ≤ j - i).
+      term-past t N (8 * blocks) pairs tiles j i g c
+      ∙ sym (sumTo-zeros (t - 1) _ (λ u _. ap (λ x. P i (1 + u) * x) (rows-past (drop (b * N) s) N k (j - i) (1 + (t - 1 - (u + 1))) (omega arith)) ∙ mul-zero _)))
+      (lt-or-ge (j - i) (8 * blocks))
 
-  pub sums-are : (j : ℕ) → tileSums m t N (8 * blocks) pairs tiles j ≡ middleSum (rowsOf (take (m * N) s) N m) (rowsOf (drop (m * N) s) N k) j t
+  pub sums-are : (j : ℕ) → tileSums m t N (8 * blocks) pairs tiles j ≡ middleSum P A j t
   sums-are j =
       ⊎-elim
-      (λ (l : m < j + 1). sumTo-ext m (λ a g. term-is j a g (omega arith)) ∙ pass-all (take (m * N) s) m (drop (m * N) s) k N j 1 (t - 1) m (omega arith) (omega arith))
+      (λ (l : m < j + 1). sumTo-ext m (λ i g. term-is j i g (omega arith)) ∙ pass-all (drop (a * N) s) m (drop (b * N) s) k N j 1 (t - 1) m (omega arith) (omega arith))
       (λ (l : j + 1 ≤ m).
-      cut (j + 1) m _ l (λ a lo hi. term-before t N (8 * blocks) pairs tiles j a (omega arith))
-      ∙ sumTo-ext (j + 1) (λ a g. term-is j a (omega arith) (omega arith)) ∙ pass-all (take (m * N) s) m (drop (m * N) s) k N j 1 (t - 1) (j + 1) (omega arith) (omega arith))
+      cut (j + 1) m _ l (λ i lo hi. term-before t N (8 * blocks) pairs tiles j i (omega arith))
+      ∙ sumTo-ext (j + 1) (λ i g. term-is j i (omega arith) (omega arith)) ∙ pass-all (drop (a * N) s) m (drop (b * N) s) k N j 1 (t - 1) (j + 1) (omega arith) (omega arith))
       (lt-or-ge m (j + 1))
 
-  pub gathered-tiles : (p : ℕ) (e E S : List ℕ) → length e ≡ m + k → S ≡ tabulate (m + 8 * blocks) (tileSums m t N (8 * blocks) pairs tiles)
-      → E ≡ tabulate (length e) (λ j. (word s (j * N + t) + (p - word S j % p)) % p) → E ≡ tabulate (m + k) (leftAt p N m k s t)
-  unfolding leftAt
-  gathered-tiles p e E S n q r =
-      r ∙ ap (λ x. tabulate x (λ j. (word s (j * N + t) + (p - word S j % p)) % p)) n
-      ∙ tabulate-ext (m + k) _ _ (λ j l. ap (λ x. (word s (j * N + t) + (p - x % p)) % p) (ap (λ x. word x j) q ∙ word-tabulate (m + 8 * blocks) _ j (omega arith) ∙ sums-are j))
+module _ (N m k paired blocks t : ℕ) (s pairs tiles : List ℕ) (h : Beside N m k paired blocks t s pairs tiles) where
+  pub beside-long : (length pairs ≡ paired * (2 * N)) × (length tiles ≡ blocks * (8 * N))
+  beside-long = ⊎-elim (λ (e, g). (g .pairs-long ∙ ap (λ x. x * (2 * N)) (sym e), g .tiles-long)) (λ (_, e, g). (g .pairs-long ∙ ap (λ x. x * (2 * N)) (sym e), g .tiles-long)) h
+
+  pub beside-below : AllBelow modulusBound pairs × AllBelow modulusBound tiles
+  beside-below = ⊎-elim (λ (e, g). (g .pairs-below, g .tiles-below)) (λ (_, e, g). (g .pairs-below, g .tiles-below)) h
+
+  module _ (one : 1 ≤ t) (inside : t < N) (enough : m + k ≤ paired + 8 * blocks) where
+    low-rows : (i u : ℕ) → u < t → rowsOf (drop (0 * N) s) N m i u ≡ rowsOf (take (m * N) s) N m i u
+    low-rows i u l =
+        ⊎-elim
+        (λ (g : i < m). rows-below (drop (0 * N) s) N m i u g ∙ getD-drop (0 * N) s (i * N + u) 0 ∙ ap (word s) (let z : 0 * N + (i * N + u) ≡ i * N + u = omega arith in z)
+        ∙ sym (rows-below (take (m * N) s) N m i u g ∙ getD-take (m * N) s (i * N + u) 0 (omega (arith, row-fits i m N g))))
+        (λ (g : m ≤ i). rows-past (drop (0 * N) s) N m i u g ∙ sym (rows-past (take (m * N) s) N m i u g)) (lt-or-ge i m)
+
+    pub beside-sums : (j : ℕ) → tileSums paired t N (8 * blocks) pairs tiles j ≡ middleSum (rowsOf (take (m * N) s) N m) (rowsOf (drop (m * N) s) N k) j t
+    beside-sums j =
+        ⊎-elim
+        (λ (e, g). ap (λ x. tileSums x t N (8 * blocks) pairs tiles j) e ∙ sums-are N 0 m m k blocks t s pairs tiles g one inside (omega arith) j
+        ∙ pass-ext j 1 (t - 1) (λ i u _ _ l. low-rows i u (omega arith)) (λ i u _ _ l. refl))
+        (λ (_, e, g). ap (λ x. tileSums x t N (8 * blocks) pairs tiles j) e ∙ sums-are N m k 0 m blocks t s pairs tiles g one inside (omega arith) j
+        ∙ pass-turn (rowsOf (drop (m * N) s) N k) (rowsOf (drop (0 * N) s) N m) j 1 (t - 1)
+        ∙ pass-ext j 1 (t - 1) (λ i u _ _ l. low-rows i u (omega arith)) (λ i u _ _ l. refl))
+        h
+
+    pub gathered-tiles : (p : ℕ) (e E S : List ℕ) → length e ≡ m + k → S ≡ tabulate (paired + 8 * blocks) (tileSums paired t N (8 * blocks) pairs tiles)
+        → E ≡ tabulate (length e) (λ j. (word s (j * N + t) + (p - word S j % p)) % p) → E ≡ tabulate (m + k) (leftAt p N m k s t)
+    unfolding leftAt
+    gathered-tiles p e E S n q r =
+        r ∙ ap (λ x. tabulate x (λ j. (word s (j * N + t) + (p - word S j % p)) % p)) n
+        ∙ tabulate-ext (m + k) _ _ (λ j l. ap (λ x. (word s (j * N + t) + (p - x % p)) % p) (ap (λ x. word x j) q ∙ word-tabulate (paired + 8 * blocks) _ j (omega arith) ∙ beside-sums j))
 
 -- word j of what the sums leave
 abbrev pub lessAt : (p N t : ℕ) (sums rows : List ℕ) → ℕ → ℕ
@@ -218,77 +221,147 @@ two-lanes : (l : ℕ) → l < 2 → (l ≡ 0) ⊎ (l ≡ 1)
 two-lanes l g = ⊎-elim (λ (z : l < 1). inl (omega arith)) (λ (z : 1 ≤ l). inr (omega arith)) (lt-or-ge l 1)
 
 -- column t is stored, twice in the pairs, and put as lanes
-module _ (N m k blocks t : ℕ) (column old new pairs mid pairs′ tiles tiles′ : List ℕ) (inside : t < N) (enough : k ≤ 8 * blocks) (n : length column ≡ m + k) (b : AllBelow modulusBound column)
-    (first : ColumnStored (2 * N) (2 * t) (take m column) pairs mid) (second : ColumnStored (2 * N) (2 * t + 1) (take m column) mid pairs′)
-    (lanes : TilePut N blocks t (from column m) tiles tiles′) (h : Tiled N m k blocks t old pairs tiles) (st : ColumnStored N t column old new) where
-  nm : length (take m column) ≡ m
-  nm = length-take-le m column (omega arith)
-
-  kept : (j : ℕ) → j < m + k → (s : ℕ) → s < t → word new (j * N + s) ≡ word old (j * N + s)
-  kept j l s g = st .others j (omega arith) s (omega arith) (λ e. let z : ⊥ = omega arith in z)
-
-  stored : (j : ℕ) → j < m + k → word new (j * N + t) ≡ word column j
-  stored j l = st .here j (omega arith)
-
-  front-below : AllBelow modulusBound (take m column)
-  front-below i l = rw (getD-take m column i 0 (omega (arith, nm))) (b i (omega (arith, nm)))
-
-  rest-below : AllBelow modulusBound (from column m)
-  rest-below i l = rw (word-from column m i) (b (m + i) (omega (arith, length-from column m)))
-
-  mid-long : length mid ≡ m * (2 * N)
+module _ (N a b blocks t : ℕ) (low high old new pairs mid pairs′ tiles tiles′ : List ℕ) (inside : t < N) (enough : length high ≤ 8 * blocks)
+    (bl : AllBelow modulusBound low) (bh : AllBelow modulusBound high)
+    (first : ColumnStored (2 * N) (2 * t) low pairs mid) (second : ColumnStored (2 * N) (2 * t + 1) low mid pairs′) (lanes : TilePut N blocks t high tiles tiles′)
+    (h : Tiled N a (length low) b (length high) blocks t old pairs tiles) (stl : ColumnPut N t a low old new) (sth : ColumnPut N t b high old new) where
+  mid-long : length mid ≡ length low * (2 * N)
   mid-long = first .long ∙ h .pairs-long
 
-  low-here : (a : ℕ) → a < m → (l : ℕ) → l < 2 → word pairs′ (a * (2 * N) + (2 * t + l)) ≡ word column a
-  low-here a g l u =
+  low-here : (i : ℕ) → i < length low → (l : ℕ) → l < 2 → word pairs′ (i * (2 * N) + (2 * t + l)) ≡ word low i
+  low-here i g l u =
       ⊎-elim
       (λ (e : l ≡ 0).
       let z : 2 * t + l ≡ 2 * t = omega arith in
-      ap (λ v. word pairs′ (a * (2 * N) + v)) z ∙ second .others a (omega (arith, nm)) (2 * t) (omega arith) (λ q. let y : ⊥ = omega arith in y)
-      ∙ first .here a (omega (arith, nm)) ∙ getD-take m column a 0 g)
-      (λ (e : l ≡ 1). ap (λ v. word pairs′ (a * (2 * N) + (2 * t + v))) e ∙ second .here a (omega (arith, nm)) ∙ getD-take m column a 0 g)
+      ap (λ v. word pairs′ (i * (2 * N) + v)) z ∙ second .others i g (2 * t) (omega arith) (λ q. let y : ⊥ = omega arith in y) ∙ first .here i g)
+      (λ (e : l ≡ 1). ap (λ v. word pairs′ (i * (2 * N) + (2 * t + v))) e ∙ second .here i g)
       (two-lanes l u)
 
-  low-kept : (a : ℕ) → a < m → (s : ℕ) → s < t → (l : ℕ) → l < 2 → word pairs′ (a * (2 * N) + (2 * s + l)) ≡ word pairs (a * (2 * N) + (2 * s + l))
-  low-kept a g s u l v =
-      second .others a (omega (arith, nm)) (2 * s + l) (omega arith) (λ q. let y : ⊥ = omega arith in y)
-      ∙ first .others a (omega (arith, nm)) (2 * s + l) (omega arith) (λ q. let y : ⊥ = omega arith in y)
+  low-kept : (i : ℕ) → i < length low → (s : ℕ) → s < t → (l : ℕ) → l < 2 → word pairs′ (i * (2 * N) + (2 * s + l)) ≡ word pairs (i * (2 * N) + (2 * s + l))
+  low-kept i g s u l v =
+      second .others i g (2 * s + l) (omega arith) (λ q. let y : ⊥ = omega arith in y) ∙ first .others i g (2 * s + l) (omega arith) (λ q. let y : ⊥ = omega arith in y)
 
-  high-here : (i : ℕ) → i < 8 * blocks → tileAt N tiles′ t i ≡ choose (ltb i k) (word new ((m + i) * N + t)) 0
+  high-here : (i : ℕ) → i < 8 * blocks → tileAt N tiles′ t i ≡ choose (ltb i (length high)) (word new ((b + i) * N + t)) 0
   high-here i l =
-      lanes .here i l ∙ word-from column m i
-      ∙ ⊎-elim (λ (g : i < k). rw (lt-ltb i k g) (sym (stored (m + i) (omega arith)))) (λ (g : k ≤ i). rw (le-ltb i k g) (List·getD-eq-default column 0 (omega arith))) (lt-or-ge i k)
+      lanes .here i l
+      ∙ ⊎-elim (λ (g : i < length high). rw (lt-ltb i (length high) g) (sym (sth .here i g))) (λ (g : length high ≤ i). rw (le-ltb i (length high) g) (List·getD-eq-default high 0 g)) (lt-or-ge i (length high))
 
-  high-kept : (s : ℕ) → 1 ≤ s → s < t → (i : ℕ) → i < 8 * blocks → tileAt N tiles′ s i ≡ choose (ltb i k) (word new ((m + i) * N + s)) 0
+  high-kept : (s : ℕ) → 1 ≤ s → s < t → (i : ℕ) → i < 8 * blocks → tileAt N tiles′ s i ≡ choose (ltb i (length high)) (word new ((b + i) * N + s)) 0
   high-kept s lo hi i l =
       lanes .others s (omega arith) (λ q. let y : ⊥ = omega arith in y) i l ∙ h .high s lo hi i l
-      ∙ ⊎-elim (λ (g : i < k). rw (lt-ltb i k g) (sym (kept (m + i) (omega arith) s hi))) (λ (g : k ≤ i). rw (le-ltb i k g)) (lt-or-ge i k)
+      ∙ ⊎-elim (λ (g : i < length high). rw (lt-ltb i (length high) g) (sym (sth .before i g s hi))) (λ (g : length high ≤ i). rw (le-ltb i (length high) g)) (lt-or-ge i (length high))
 
-  pub tiled-next : Tiled N m k blocks (t + 1) new pairs′ tiles′
+  pub tiled-next : Tiled N a (length low) b (length high) blocks (t + 1) new pairs′ tiles′
   tiled-next = record {
     pairs-long = second .long ∙ mid-long;
     tiles-long = lanes .long ∙ h .tiles-long;
-    pairs-below = stored-below modulusBound (2 * N) (2 * t + 1) m (take m column) mid pairs′ nm mid-long (omega arith) second front-below
-        (stored-below modulusBound (2 * N) (2 * t) m (take m column) pairs mid nm (h .pairs-long) (omega arith) first front-below (h .pairs-below));
-    tiles-below = lanes .below modulusBound (omega arith) rest-below (h .tiles-below);
-    low = λ a g s lo hi l u. ⊎-elim
-        (λ (e : s ≡ t). subst (λ v. word pairs′ (a * (2 * N) + (2 * v + l)) ≡ word new (a * N + v)) (sym e) (low-here a g l u ∙ sym (stored a (omega arith))))
-        (λ (e : s < t). low-kept a g s e l u ∙ h .low a g s lo e l u ∙ sym (kept a (omega arith) s e)) (eq-or-lt-of-le {n = s} {m = t} (omega arith));
+    pairs-below = stored-below modulusBound (2 * N) (2 * t + 1) (length low) low mid pairs′ refl mid-long (omega arith) second bl
+        (stored-below modulusBound (2 * N) (2 * t) (length low) low pairs mid refl (h .pairs-long) (omega arith) first bl (h .pairs-below));
+    tiles-below = lanes .below modulusBound (omega arith) bh (h .tiles-below);
+    low = λ i g s lo hi l u. ⊎-elim
+        (λ (e : s ≡ t). subst (λ v. word pairs′ (i * (2 * N) + (2 * v + l)) ≡ word new ((a + i) * N + v)) (sym e) (low-here i g l u ∙ sym (stl .here i g)))
+        (λ (e : s < t). low-kept i g s e l u ∙ h .low i g s lo e l u ∙ sym (stl .before i g s e)) (eq-or-lt-of-le {n = s} {m = t} (omega arith));
     high = λ s lo hi i l. ⊎-elim
-        (λ (e : s ≡ t). subst (λ v. tileAt N tiles′ v i ≡ choose (ltb i k) (word new ((m + i) * N + v)) 0) (sym e) (high-here i l))
+        (λ (e : s ≡ t). subst (λ v. tileAt N tiles′ v i ≡ choose (ltb i (length high)) (word new ((b + i) * N + v)) 0) (sym e) (high-here i l))
         (λ (e : s < t). high-kept s lo e i l) (eq-or-lt-of-le {n = s} {m = t} (omega arith));
   }
 
+-- the column in its two parts
+module _ (N t m k : ℕ) (column old new : List ℕ) (inside : t < N) (n : length column ≡ m + k) (st : ColumnStored N t column old new) where
+  low-long : length (take m column) ≡ m
+  low-long = length-take-le m column (omega arith)
+
+  high-long : length (from column m) ≡ k
+  high-long = length-from column m ∙ omega arith
+
+  low-put : ColumnPut N t 0 (take m column) old new
+  low-put = record {
+    here = λ j l. ap (λ x. word new (x * N + t)) (zero-add j) ∙ st .here j (omega (arith, low-long)) ∙ sym (getD-take m column j 0 (omega (arith, low-long)));
+    before = λ j l s g. let u : 0 + j ≡ j = zero-add j in
+        subst (λ x. word new (x * N + s) ≡ word old (x * N + s)) (sym u) (st .others j (omega (arith, low-long)) s (omega arith) (λ e. let z : ⊥ = omega arith in z));
+  }
+
+  high-put : ColumnPut N t m (from column m) old new
+  high-put = record {
+    here = λ j l. st .here (m + j) (omega (arith, high-long)) ∙ sym (word-from column m j);
+    before = λ j l s g. st .others (m + j) (omega (arith, high-long)) s (omega arith) (λ e. let z : ⊥ = omega arith in z);
+  }
+
+-- one column more, either way round
+module _ (N m k paired blocks t : ℕ) (column pairs tiles pairs′ tiles′ : List ℕ) (inside : t < N) (n : length column ≡ m + k) where
+  abbrev pub Turn : (low high : List ℕ) → Type 0
+  Turn low high =
+      (a b : ℕ) (old new : List ℕ) → Tiled N a (length low) b (length high) blocks t old pairs tiles → ColumnPut N t a low old new → ColumnPut N t b high old new
+      → Tiled N a (length low) b (length high) blocks (t + 1) new pairs′ tiles′
+
+  sized : (a b u : ℕ) (rows ps ts : List ℕ) {x y x′ y′ : ℕ} → x ≡ x′ → y ≡ y′ → Tiled N a x b y blocks u rows ps ts → Tiled N a x′ b y′ blocks u rows ps ts
+  sized a b u rows ps ts {x} {y} {x′} {y′} e q g = subst (λ v. Tiled N a v b y′ blocks u rows ps ts) e (subst (λ v. Tiled N a x b v blocks u rows ps ts) q g)
+
+  nl : length (take m column) ≡ m
+  nl = length-take-le m column (omega arith)
+
+  nh : length (from column m) ≡ k
+  nh = length-from column m ∙ omega arith
+
+  pub beside-low : paired ≡ m → Turn (take m column) (from column m) → (old new : List ℕ) → Beside N m k paired blocks t old pairs tiles → ColumnStored N t column old new
+      → Beside N m k paired blocks (t + 1) new pairs′ tiles′
+  beside-low e f old new h st =
+      ⊎-elim
+      (λ (_, g). inl (
+        e,
+        sized 0 m (t + 1) new pairs′ tiles′ nl nh
+            (f 0 m old new (sized 0 m t old pairs tiles (sym nl) (sym nh) g) (low-put N t m k column old new inside n st) (high-put N t m k column old new inside n st)),
+      ))
+      (λ (ne, _, _). absurd (ne e)) h
+
+  pub beside-high : (paired ≡ m → ⊥) → Turn (from column m) (take m column) → (old new : List ℕ) → Beside N m k paired blocks t old pairs tiles → ColumnStored N t column old new
+      → Beside N m k paired blocks (t + 1) new pairs′ tiles′
+  beside-high ne f old new h st =
+      ⊎-elim (λ (e, _). absurd (ne e))
+      (λ (_, q, g). inr (
+        ne,
+        q,
+        sized m 0 (t + 1) new pairs′ tiles′ nh nl
+            (f m 0 old new (sized m 0 t old pairs tiles (sym nh) (sym nl) g) (high-put N t m k column old new inside n st) (low-put N t m k column old new inside n st)),
+      )) h
+
 -- before column 1 nothing stands beside the rows
-pub tiled-none : (N m k blocks high : ℕ) (rows cells pairs tiles : List ℕ) → Room N m k blocks high cells pairs tiles → Tiled N m k blocks 1 rows pairs tiles
-tiled-none N m k blocks high rows cells pairs tiles r = record {
-  pairs-long = r .pairs-long;
-  tiles-long = r .tiles-long;
-  pairs-below = r .pairs-below;
-  tiles-below = r .tiles-below;
-  low = λ a l s lo hi. absurd (let z : ⊥ = omega arith in z);
+nothing : (N a m b k blocks : ℕ) (rows pairs tiles : List ℕ) → length pairs ≡ m * (2 * N) → length tiles ≡ blocks * (8 * N) → AllBelow modulusBound pairs → AllBelow modulusBound tiles
+    → Tiled N a m b k blocks 1 rows pairs tiles
+nothing N a m b k blocks rows pairs tiles np nt bp bt = record {
+  pairs-long = np;
+  tiles-long = nt;
+  pairs-below = bp;
+  tiles-below = bt;
+  low = λ i l s lo hi. absurd (let z : ⊥ = omega arith in z);
   high = λ s lo hi. absurd (let z : ⊥ = omega arith in z);
 }
+
+pub tiled-none : (N m k paired blocks high : ℕ) (rows cells pairs tiles : List ℕ) → (paired ≡ m) ⊎ (paired ≡ k) → Room N m k paired blocks high cells pairs tiles
+    → Beside N m k paired blocks 1 rows pairs tiles
+tiled-none N m k paired blocks high rows cells pairs tiles side r =
+    ⊎-elim
+    (λ (e : paired ≡ m). inl (e, nothing N 0 m m k blocks rows pairs tiles (r .pairs-long ∙ ap (λ x. x * (2 * N)) e) (r .tiles-long) (r .pairs-below) (r .tiles-below)))
+    (λ (ne : paired ≡ m → ⊥).
+    let e : paired ≡ k = ⊎-elim (λ (q : paired ≡ m). absurd (ne q)) (λ (q : paired ≡ k). q) side in
+    inr (ne, e, nothing N m k 0 m blocks rows pairs tiles (r .pairs-long ∙ ap (λ x. x * (2 * N)) e) (r .tiles-long) (r .pairs-below) (r .tiles-below)))
+    (same-or-not paired m)
+
+-- column t as it stands in the rows: stored there, it leaves them as they are
+module _ (N t n : ℕ) (rows c : List ℕ) (loaded : c ≡ tabulate n (λ j. word rows (j * N + t))) where
+  long : length c ≡ n
+  long = ap length loaded ∙ length-tabulate n _
+
+  at : (j : ℕ) → j < n → word c j ≡ word rows (j * N + t)
+  at j l = ap (λ x. word x j) loaded ∙ word-tabulate n _ j l
+
+  pub loaded-stored : ColumnStored N t c rows rows
+  loaded-stored = record { long = refl; here = λ j l. sym (at j (omega (arith, long))); others = λ j l s g ne. refl; rest = λ i l. refl }
+
+  pub loaded-below : (q : ℕ) → t < N → length rows ≡ n * N → AllBelow q rows → AllBelow q c
+  loaded-below q l e b j g =
+      let u : j < n = omega (arith, long) in
+      subst (λ x. x < q) (sym (at j u)) (b (j * N + t) (omega (arith, row-fits j n N u)))
 
 -- the lengths and bounds of what the calls are lent
 pub made-long : (n : ℕ) (f : ℕ → ℕ) (s : List ℕ) → s ≡ tabulate n f → length s ≡ n
@@ -328,37 +401,41 @@ tiles-hold k = omega (arith, div-add-mod' (k + 7) 8, mod-lt (k + 7) {m = 8} (ome
 pub tiles-few : (k b : ℕ) → k ≤ 8 * b → (k + 7) / 8 ≤ b
 tiles-few k b l = omega (arith, div-add-mod' (k + 7) 8, mod-lt (k + 7) {m = 8} (omega arith))
 
-module _ (N m k : ℕ) (width : N ≤ largestWidth) (few : m ≤ 31) (lanes : k ≤ largestDegree) (room : m + k ≤ mostRows) where
+module _ (N m k paired : ℕ) (width : N ≤ largestWidth) (few : m ≤ 31) (lanes : k ≤ 31) (room : m + k ≤ mostRows) (side : (paired ≡ m) ⊎ (paired ≡ k)) where
+  paired-few : (paired ≤ 31) × (m + k - paired ≤ 31)
+  paired-few = ⊎-elim (λ (e : paired ≡ m). (omega arith, omega arith)) (λ (e : paired ≡ k). (omega arith, omega arith)) side
+
   pub cells-fit : (m + k + 7) / 8 * (8 * (m + k + 1)) ≤ 1360
   cells-fit = let z : (m + k + 7) / 8 * (8 * (m + k + 1)) ≤ 5 * 272 = mul-le-mul {n₂ = 5} {m₂ = 272} (tiles-few (m + k) 5 (omega arith)) (omega arith) in omega arith
 
-  pub pairs-fit : m * (2 * N) ≤ 15872
-  pairs-fit = let z : m * (2 * N) ≤ 31 * 512 = mul-le-mul {n₂ = 31} {m₂ = 512} few (omega arith) in omega arith
+  pub pairs-fit : paired * (2 * N) ≤ 15872
+  pairs-fit = let z : paired * (2 * N) ≤ 31 * 512 = mul-le-mul {n₂ = 31} {m₂ = 512} (paired-few .0) (omega arith) in omega arith
 
-  pub tiles-fit : (k + 7) / 8 * (8 * N) ≤ 8192
-  tiles-fit = let z : (k + 7) / 8 * (8 * N) ≤ 4 * 2048 = mul-le-mul {n₂ = 4} {m₂ = 2048} (tiles-few k 4 (omega arith)) (omega arith) in omega arith
+  pub tiles-fit : (m + k - paired + 7) / 8 * (8 * N) ≤ 8192
+  tiles-fit = let z : (m + k - paired + 7) / 8 * (8 * N) ≤ 4 * 2048 = mul-le-mul {n₂ = 4} {m₂ = 2048} (tiles-few (m + k - paired) 4 (omega (arith, paired-few .1))) (omega arith) in omega arith
 
-  pub room-made : (a b c : ℕ) → (m + k + 7) / 8 * (8 * (m + k + 1)) ≤ a → m * (2 * N) ≤ b → (k + 7) / 8 * (8 * N) ≤ c
-      → Room N m k ((k + 7) / 8) ((m + k + 7) / 8) (take ((m + k + 7) / 8 * (8 * (m + k + 1))) (blank a)) (take (m * (2 * N)) (blank b)) (take ((k + 7) / 8 * (8 * N)) (blank c))
+  pub room-made : (a b c : ℕ) → (m + k + 7) / 8 * (8 * (m + k + 1)) ≤ a → paired * (2 * N) ≤ b → (m + k - paired + 7) / 8 * (8 * N) ≤ c
+      → Room N m k paired ((m + k - paired + 7) / 8) ((m + k + 7) / 8) (take ((m + k + 7) / 8 * (8 * (m + k + 1))) (blank a)) (take (paired * (2 * N)) (blank b)) (take ((m + k - paired + 7) / 8 * (8 * N)) (blank c))
   room-made a b c la lb lc = record {
     cells-long = lent-long a _ la;
     pairs-long = lent-long b _ lb;
     tiles-long = lent-long c _ lc;
     cells-below = lent-below a ((m + k + 7) / 8 * (8 * (m + k + 1)));
-    pairs-below = lent-below b (m * (2 * N));
-    tiles-below = lent-below c ((k + 7) / 8 * (8 * N));
+    pairs-below = lent-below b (paired * (2 * N));
+    tiles-below = lent-below c ((m + k - paired + 7) / 8 * (8 * N));
   }
 
-  pub sizes-are : (p : ℕ) → 1 ≤ p → p < modulusBound → 1 ≤ m → Sizes p N m k ((k + 7) / 8) ((m + k + 7) / 8)
+  pub sizes-are : (p : ℕ) → 1 ≤ p → p < modulusBound → 1 ≤ m → Sizes p N m k paired ((m + k - paired + 7) / 8) ((m + k + 7) / 8)
   sizes-are p pos small low = record {
     some = pos;
     small = small;
     width = width;
     m-low = low;
-    m-high = omega arith;
     room = room;
-    lanes = tiles-hold k;
-    few = tiles-few k 5 (omega arith);
+    either = side;
+    paired-high = omega (arith, paired-few .0);
+    lanes = omega (arith, tiles-hold (m + k - paired));
+    few = tiles-few (m + k - paired) 5 (omega (arith, paired-few .1));
     high-lanes = tiles-hold (m + k);
     high-few = tiles-few (m + k) 5 (omega arith);
   }

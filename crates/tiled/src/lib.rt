@@ -1,6 +1,7 @@
 // The columns of the split by tiles: beside the rows stand the words that the next columns multiply, P's as pairs and A's as the lanes of tiles, so that
-// eight sums run at a time.
+// eight sums run at a time; or A's as pairs and P's as lanes, where that leaves fewer lanes empty.
 use columns::less;
+use columns::load_column;
 use columns::store_column;
 use tiles::tile::put_column;
 use tiles::tile::tile_row;
@@ -8,6 +9,7 @@ use tiles::weights::clear_sums;
 use tiles::weights::load_table;
 use tiles::weights::weigh;
 ghost use mathlib.Core.Path.{_≡_};
+ghost use mathlib.Core.Logic.{_⊎_};
 ghost use mathlib.Core.List.{List};
 ghost use Prim.Native.Nat.{ℕ, _+_, _-_, _*_, _%_, _≤_, _<_};
 ghost use lib.ListN.{length};
@@ -17,11 +19,11 @@ ghost use Rattle.numbers.specs.internal.Limits.{modulusBound};
 ghost use Rattle.numbers.specs.Limits.{largestDegree, mostRows, largestWidth};
 ghost use Rattle.rows.specs.internal.Passes.{weightSum};
 ghost use Rattle.columns.specs.internal.Column.{ColumnStored};
-ghost use Rattle.solution.specs.internal.Table.{Table, Bases, leftAt, Step, SplitTo, SplitReady};
+ghost use Rattle.solution.specs.internal.Table.{leftAt, Step, SplitTo, SplitReady};
 ghost use Rattle.tiles.specs.internal.Weights.{TableTiled};
-ghost use Rattle.tiled.specs.internal.Tiled.{tileSums, Tiled, Sizes, Room};
+ghost use Rattle.tiled.specs.internal.Tiled.{tileSums, Tiled, ColumnPut, Beside, Sizes, Room};
 
-// The most words that stand beside the rows, for parts of degree 31 and 32 that come to 33 rows at the most, and 256 columns.
+// The most words that stand beside the rows, for two parts of 31 rows at the most that come to 33, and 256 columns.
 const CELLS_ROOM: usize = 1360; // 5 tiles of 8 · 34: the table of solutions
 
 const PAIRS_ROOM: usize = 15872; // 31 rows of 2 · 256: P's words, each twice
@@ -34,9 +36,9 @@ const PARTNERS_ROOM: usize = 68; // a column's words, each twice
 
 const TOTALS_ROOM: usize = 40; // 5 tiles
 
-// The products of the columns between, not yet reduced: row a of P adds to the sums from a on.
+// The products of the columns between, not yet reduced: row a of the pairs adds to the sums from a on.
 fn middle_sums(
-    m: usize,
+    paired: usize,
     t: usize,
     n: usize,
     blocks: usize,
@@ -44,13 +46,13 @@ fn middle_sums(
     tiles: &[u64],
     sums: &mut [u64],
 )
-    requires { ⌜ (m ≤ largestDegree) × (1 ≤ t) × (t ≤ n) × (n ≤ largestWidth) × (blocks ≤ 5) × (length (now pairs) ≡ m * (2 * n)) × (length (now tiles) ≡ blocks * (8 * n)) × (length (now sums) ≡ m + 8 * blocks)
+    requires { ⌜ (paired ≤ largestDegree) × (1 ≤ t) × (t ≤ n) × (n ≤ largestWidth) × (blocks ≤ 5) × (length (now pairs) ≡ paired * (2 * n)) × (length (now tiles) ≡ blocks * (8 * n)) × (length (now sums) ≡ paired + 8 * blocks)
         × AllBelow modulusBound (now pairs) × AllBelow modulusBound (now tiles) ⌝ }
-    ensures { λ _. ⌜ now (sums .exit) ≡ tabulate (m + 8 * blocks) (tileSums m t n (8 * blocks) (now (pairs .entry)) (now (tiles .entry))) ⌝ }
+    ensures { λ _. ⌜ now (sums .exit) ≡ tabulate (paired + 8 * blocks) (tileSums paired t n (8 * blocks) (now (pairs .entry)) (now (tiles .entry))) ⌝ }
 {
     clear_sums(sums);
     let mut a = 0;
-    while a < m {
+    while a < paired {
         let row = a * (2 * n);
         let end = a + 8 * blocks;
         tile_row(t, n, blocks, &pairs[row..], tiles, &mut sums[a..end]);
@@ -75,6 +77,7 @@ fn gather_tiles(
     p: u32,
     m: usize,
     k: usize,
+    paired: usize,
     n: usize,
     t: usize,
     blocks: usize,
@@ -84,12 +87,12 @@ fn gather_tiles(
     rows: &[u32],
     e: &mut [u32],
 )
-    requires { ⌜ (1 ≤ p) × (p < modulusBound) × (m ≤ largestDegree) × (m + k ≤ mostRows) × (k ≤ 8 * blocks) × (blocks ≤ 5) × (n ≤ largestWidth) × (1 ≤ t) × (t < n) × (length (now rows) ≡ (m + k) * n) × (length (now e) ≡ m + k)
-        × (length (now sums) ≡ m + 8 * blocks) × Tiled n m k blocks t (now rows) (now pairs) (now tiles) × AllBelow p (now rows) ⌝ }
-    ensures scratch { λ _. ⌜ length (now (sums .exit)) ≡ m + 8 * blocks ⌝ }
+    requires { ⌜ (1 ≤ p) × (p < modulusBound) × (paired ≤ largestDegree) × (m + k ≤ mostRows) × (m + k ≤ paired + 8 * blocks) × (blocks ≤ 5) × (n ≤ largestWidth) × (1 ≤ t) × (t < n) × (length (now rows) ≡ (m + k) * n) × (length (now e) ≡ m + k)
+        × (length (now sums) ≡ paired + 8 * blocks) × Beside n m k paired blocks t (now rows) (now pairs) (now tiles) × AllBelow p (now rows) ⌝ }
+    ensures scratch { λ _. ⌜ length (now (sums .exit)) ≡ paired + 8 * blocks ⌝ }
     ensures is { λ _. ⌜ now (e .exit) ≡ tabulate (m + k) (leftAt p n m k (now (rows .entry)) t) ⌝ }
 {
-    middle_sums(m, t, n, blocks, pairs, tiles, sums);
+    middle_sums(paired, t, n, blocks, pairs, tiles, sums);
     less_sums(p, n, t, sums, rows, e);
 }
 
@@ -105,26 +108,50 @@ fn store_wide(e: &[u32], n: usize, t: usize, out: &mut [u64])
     }
 }
 
-// Column t goes beside the rows: P's words twice, A's as lanes.
-fn put_tiles(
-    column: &[u32],
-    m: usize,
-    k: usize,
+// Column t of the rows from row a on goes into the pairs, each word twice, and of those from row b on into the lanes.
+fn put_sides(
+    low: &[u32],
+    high: &[u32],
     n: usize,
     t: usize,
     blocks: usize,
     pairs: &mut [u64],
     tiles: &mut [u64],
 )
-    requires { ⌜ (m + k ≤ mostRows) × (k ≤ 8 * blocks) × (blocks ≤ 5) × (n ≤ largestWidth) × (t < n) × (length (now column) ≡ m + k) × AllBelow modulusBound (now column)
-        × (length (now pairs) ≡ m * (2 * n)) × (length (now tiles) ≡ blocks * (8 * n)) ⌝ }
-    ensures { λ _. ⌜ ((old new : List ℕ) → Tiled n m k blocks t old (now (pairs .entry)) (now (tiles .entry)) → ColumnStored n t (now (column .entry)) old new
-        → Tiled n m k blocks (t + 1) new (now (pairs .exit)) (now (tiles .exit))) ⌝ }
+    requires { ⌜ (length (now low) ≤ mostRows) × (length (now high) ≤ 8 * blocks) × (blocks ≤ 5) × (n ≤ largestWidth) × (t < n) × AllBelow modulusBound (now low) × AllBelow modulusBound (now high)
+        × (length (now pairs) ≡ length (now low) * (2 * n)) × (length (now tiles) ≡ blocks * (8 * n)) ⌝ }
+    ensures { λ _. ⌜ ((a b : ℕ) (old new : List ℕ) → Tiled n a (length (now (low .entry))) b (length (now (high .entry))) blocks t old (now (pairs .entry)) (now (tiles .entry))
+        → ColumnPut n t a (now (low .entry)) old new → ColumnPut n t b (now (high .entry)) old new
+        → Tiled n a (length (now (low .entry))) b (length (now (high .entry))) blocks (t + 1) new (now (pairs .exit)) (now (tiles .exit))) ⌝ }
 {
-    let low = 2 * t;
-    store_wide(&column[..m], 2 * n, low, pairs);
-    store_wide(&column[..m], 2 * n, low + 1, pairs);
-    put_column(&column[m..], n, t, blocks, tiles);
+    let at = 2 * t;
+    store_wide(low, 2 * n, at, pairs);
+    store_wide(low, 2 * n, at + 1, pairs);
+    put_column(high, n, t, blocks, tiles);
+}
+
+// Column t goes beside the rows.
+fn put_tiles(
+    column: &[u32],
+    m: usize,
+    k: usize,
+    paired: usize,
+    n: usize,
+    t: usize,
+    blocks: usize,
+    pairs: &mut [u64],
+    tiles: &mut [u64],
+)
+    requires { ⌜ (m + k ≤ mostRows) × ((paired ≡ m) ⊎ (paired ≡ k)) × (m + k ≤ paired + 8 * blocks) × (blocks ≤ 5) × (n ≤ largestWidth) × (t < n) × (length (now column) ≡ m + k) × AllBelow modulusBound (now column)
+        × (length (now pairs) ≡ paired * (2 * n)) × (length (now tiles) ≡ blocks * (8 * n)) ⌝ }
+    ensures { λ _. ⌜ ((old new : List ℕ) → Beside n m k paired blocks t old (now (pairs .entry)) (now (tiles .entry)) → ColumnStored n t (now (column .entry)) old new
+        → Beside n m k paired blocks (t + 1) new (now (pairs .exit)) (now (tiles .exit))) ⌝ }
+{
+    if paired == m {
+        put_sides(&column[..m], &column[m..], n, t, blocks, pairs, tiles);
+    } else {
+        put_sides(&column[m..], &column[..m], n, t, blocks, pairs, tiles);
+    }
 }
 
 // Column t of the split, from the columns before it: what it leaves, times the table, whose words stand in cells. sums, partners, totals and e are for
@@ -133,6 +160,7 @@ fn next_column(
     p: u32,
     m: usize,
     k: usize,
+    paired: usize,
     n: usize,
     t: usize,
     blocks: usize,
@@ -145,15 +173,15 @@ fn next_column(
     e: &mut [u32],
     column: &mut [u32],
 )
-    requires { ⌜ Sizes p n m k blocks high × (1 ≤ t) × (t < n) × TableTiled (m + k) high (now table) (now cells) × (length (now rows) ≡ (m + k) * n)
+    requires { ⌜ Sizes p n m k paired blocks high × (1 ≤ t) × (t < n) × TableTiled (m + k) high (now table) (now cells) × (length (now rows) ≡ (m + k) * n)
         × (length (now e) ≡ m + k) × (length (now column) ≡ m + k)
-        × Tiled n m k blocks t (now rows) (now pairs) (now tiles) × AllBelow p (now rows) ⌝ }
+        × Beside n m k paired blocks t (now rows) (now pairs) (now tiles) × AllBelow p (now rows) ⌝ }
     ensures scratch { λ _. ⌜ length (now (e .exit)) ≡ m + k ⌝ }
     ensures buffer { λ _. ⌜ length (now (column .exit)) ≡ m + k ⌝ }
     ensures is { λ _. ⌜ now (column .exit) ≡ tabulate (m + k) (λ i. weightSum (now (table .entry)) (m + k) (tabulate (m + k) (leftAt p n m k (now (rows .entry)) t)) i % p) ⌝ }
 {
     let size = m + k;
-    let lanes = m + 8 * blocks;
+    let lanes = paired + 8 * blocks;
     let mut sums = [0u64; SUMS_ROOM];
     let mut partners = [0u64; PARTNERS_ROOM];
     let mut totals = [0u64; TOTALS_ROOM];
@@ -161,6 +189,7 @@ fn next_column(
         p,
         m,
         k,
+        paired,
         n,
         t,
         blocks,
@@ -187,6 +216,7 @@ fn tiled_column(
     p: u32,
     m: usize,
     k: usize,
+    paired: usize,
     n: usize,
     t: usize,
     blocks: usize,
@@ -199,18 +229,19 @@ fn tiled_column(
     e: &mut [u32],
     column: &mut [u32],
 )
-    requires { ⌜ Sizes p n m k blocks high × (1 ≤ t) × (t < n) × TableTiled (m + k) high (now table) (now cells) × (length (now rows) ≡ (m + k) * n)
+    requires { ⌜ Sizes p n m k paired blocks high × (1 ≤ t) × (t < n) × TableTiled (m + k) high (now table) (now cells) × (length (now rows) ≡ (m + k) * n)
         × (length (now e) ≡ m + k) × (length (now column) ≡ m + k)
-        × Tiled n m k blocks t (now rows) (now pairs) (now tiles) × AllBelow p (now rows) ⌝ }
+        × Beside n m k paired blocks t (now rows) (now pairs) (now tiles) × AllBelow p (now rows) ⌝ }
     ensures scratch { λ _. ⌜ length (now (e .exit)) ≡ m + k ⌝ }
     ensures buffer { λ _. ⌜ length (now (column .exit)) ≡ m + k ⌝ }
-    ensures tiled { λ _. ⌜ Tiled n m k blocks (t + 1) (now (rows .exit)) (now (pairs .exit)) (now (tiles .exit)) ⌝ }
+    ensures tiled { λ _. ⌜ Beside n m k paired blocks (t + 1) (now (rows .exit)) (now (pairs .exit)) (now (tiles .exit)) ⌝ }
     ensures is { λ _. ⌜ Step p n m k (now (table .entry)) t (now (rows .entry)) (now (rows .exit)) ⌝ }
 {
     next_column(
         p,
         m,
         k,
+        paired,
         n,
         t,
         blocks,
@@ -224,17 +255,45 @@ fn tiled_column(
         column,
     );
     store_column(column, n, t, rows);
-    put_tiles(column, m, k, n, t, blocks, pairs, tiles);
+    put_tiles(column, m, k, paired, n, t, blocks, pairs, tiles);
 }
 
-// Columns 1 to w − 1 of the split.
+// Columns 1 to h − 1 of the rows go beside them. column is for scratch.
+fn load_tiles(
+    m: usize,
+    k: usize,
+    paired: usize,
+    n: usize,
+    h: usize,
+    blocks: usize,
+    rows: &[u32],
+    column: &mut [u32],
+    pairs: &mut [u64],
+    tiles: &mut [u64],
+)
+    requires { ⌜ (m + k ≤ mostRows) × ((paired ≡ m) ⊎ (paired ≡ k)) × (m + k ≤ paired + 8 * blocks) × (blocks ≤ 5) × (n ≤ largestWidth) × (1 ≤ h) × (h ≤ n) × (length (now rows) ≡ (m + k) * n) × AllBelow modulusBound (now rows)
+        × (length (now column) ≡ m + k) × Beside n m k paired blocks 1 (now rows) (now pairs) (now tiles) ⌝ }
+    ensures buffer { λ _. ⌜ length (now (column .exit)) ≡ m + k ⌝ }
+    ensures is { λ _. ⌜ Beside n m k paired blocks h (now (rows .entry)) (now (pairs .exit)) (now (tiles .exit)) ⌝ }
+{
+    let mut t = 1;
+    while t < h {
+        load_column(rows, n, t, column);
+        put_tiles(column, m, k, paired, n, t, blocks, pairs, tiles);
+        t += 1;
+    }
+}
+
+// Columns h to w − 1 of the split.
 fn tiled_columns(
     p: u32,
     m: usize,
     k: usize,
+    paired: usize,
     p0: &[u32],
     a0: &[u32],
     n: usize,
+    h: usize,
     w: usize,
     blocks: usize,
     high: usize,
@@ -246,18 +305,20 @@ fn tiled_columns(
     e: &mut [u32],
     column: &mut [u32],
 )
-    requires { ⌜ SplitReady p n m k (now p0) (now a0) (now table) w (now rows) × Sizes p n m k blocks high
+    requires { ⌜ SplitReady p n m k (now p0) (now a0) (now table) h w (now rows) × Sizes p n m k paired blocks high
         × (length (now e) ≡ m + k) × (length (now column) ≡ m + k)
-        × Room n m k blocks high (now cells) (now pairs) (now tiles) ⌝ }
-    ensures { λ _. ⌜ SplitTo p n m k (now (p0 .entry)) (now (a0 .entry)) w (now (rows .entry)) (now (rows .exit)) ⌝ }
+        × Room n m k paired blocks high (now cells) (now pairs) (now tiles) ⌝ }
+    ensures { λ _. ⌜ SplitTo p n m k (now (p0 .entry)) (now (a0 .entry)) h w (now (rows .entry)) (now (rows .exit)) ⌝ }
 {
     load_table(table, m + k, high, cells);
-    let mut t = 1;
+    load_tiles(m, k, paired, n, h, blocks, rows, column, pairs, tiles);
+    let mut t = h;
     while t < w {
         tiled_column(
             p,
             m,
             k,
+            paired,
             n,
             t,
             blocks,
@@ -274,7 +335,18 @@ fn tiled_columns(
     }
 }
 
-// Columns 1 to w − 1 of the split, with room for what stands beside the rows.
+// How many rows stand as pairs, P's m or A's k: the way round that takes fewer steps.
+fn paired_rows(m: usize, k: usize) -> usize
+    requires { ⌜ m + k ≤ mostRows ⌝ }
+    ensures { λ r. ⌜ (r ≡ m) ⊎ (r ≡ k) ⌝ }
+{
+    if m * ((k + 7) / 8) <= k * ((m + 7) / 8) {
+        return m;
+    }
+    k
+}
+
+// Columns h to w − 1 of the split, with room for what stands beside the rows.
 pub fn split_tiled(
     p: u32,
     m: usize,
@@ -283,19 +355,21 @@ pub fn split_tiled(
     a0: &[u32],
     table: &[u32],
     n: usize,
+    h: usize,
     w: usize,
     e: &mut [u32],
     column: &mut [u32],
     rows: &mut [u32],
 )
-    requires { ⌜ SplitReady p n m k (now p0) (now a0) (now table) w (now rows) × (length (now e) ≡ m + k) × (length (now column) ≡ m + k) × (m ≤ 31) × (k ≤ largestDegree) ⌝ }
-    ensures { λ _. ⌜ SplitTo p n m k (now (p0 .entry)) (now (a0 .entry)) w (now (rows .entry)) (now (rows .exit)) ⌝ }
+    requires { ⌜ SplitReady p n m k (now p0) (now a0) (now table) h w (now rows) × (length (now e) ≡ m + k) × (length (now column) ≡ m + k) × (m ≤ 31) × (k ≤ 31) ⌝ }
+    ensures { λ _. ⌜ SplitTo p n m k (now (p0 .entry)) (now (a0 .entry)) h w (now (rows .entry)) (now (rows .exit)) ⌝ }
 {
     let size = m + k;
-    let blocks = (k + 7) / 8;
+    let paired = paired_rows(m, k);
+    let blocks = (size - paired + 7) / 8;
     let high = (size + 7) / 8;
     let cell_count = high * (8 * (size + 1));
-    let pair_count = m * (2 * n);
+    let pair_count = paired * (2 * n);
     let tile_count = blocks * (8 * n);
     let mut cells = [0u64; CELLS_ROOM];
     let mut pairs = [0u64; PAIRS_ROOM];
@@ -304,9 +378,11 @@ pub fn split_tiled(
         p,
         m,
         k,
+        paired,
         p0,
         a0,
         n,
+        h,
         w,
         blocks,
         high,

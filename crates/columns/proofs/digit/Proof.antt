@@ -6,7 +6,7 @@ use native.Mathlib.Nat.{mod-lt, mul-comm}
 use native.Mathlib.Omega.{arith}
 use lib.ListN.{length, length-set}
 use Rattle.numbers.specs.Words.{word}
-use Rattle.columns.proofs.ColumnLaws.{product-fits, length-horner, digit-rest-length, digit-rest-below, digit-is, length-digits}
+use Rattle.columns.proofs.ColumnLaws.{product-fits, length-horner, digit-rest-length, digit-rest-below, digit-is, length-digit}
 use borrow.Author.Needs.{needs}
 use Rattle.columns.proofs.digit.Statement.{statement}
 use Rattle.columns.proofs.digit.Tie as tie
@@ -73,7 +73,7 @@ same-length c =
     let horner = c .before .before .before .before .before .before .before .horner in
     let a = start (c .before .before .before .before) .args in
     ap length (digit-is (a .p) (a .c) (a .inverse) (a .a .now) (a .e .now) (horner .last .1 .1 .0) _ (horner .ensures) (omega arith) (c .before .before .less-multiple .ensures))
-    ∙ length-digits (a .p) (a .c) (a .inverse) (a .a .now) 1 (a .e .now) (omega arith)
+    ∙ length-digit (a .p) (a .c) (a .inverse) (a .a .now) (a .e .now) (omega arith)
 
 returns : tie.Need-returns
 returns c =

@@ -1,102 +1,63 @@
--- `pair::is_pair` meets its contract: the tests in their order.
+-- `pair::is_pair` meets its contract.
 -- Assumes nothing.
-use mathlib.Core.Path.{_≡_, sym, _∙_}
-use mathlib.Core.Bool.{true}
+use mathlib.Core.Path.{sym, subst}
 use Prim.Native.Nat.{_+_, _*_, _≤_}
 use native.Mathlib.Omega.{arith}
-use borrow.Author.Tests.{not-false}
+use lib.Seq.{length-take-le}
 use Rattle.numbers.proofs.RefusalsLaws.{few-words}
-use Rattle.rows.specs.Rows.{rowsBelow}
-use Rattle.rows.proofs.RowsLaws.{row-fits}
-use Rattle.pair.proofs.PartLaws.{seam-fits}
-use Rattle.pair.proofs.TestLaws.{pair-fails-first, pair-fails-rest, pair-fails-low, pair-fails-unit, pair-last, words-below}
+use Rattle.tiled.proofs.TiledLaws.{lent-long}
+use Rattle.pair.proofs.AnswerLaws.{pair-decided}
 use borrow.Author.Needs.{needs}
 use Rattle.pair.proofs.is_pair.Statement.{statement}
 use Rattle.pair.proofs.is_pair.Tie as tie
+use Rattle.pair.proofs.is_pair.Reads as reads
+use Rattle.pair.proofs.is_pair.Lts as lts
+use Rattle.pair.proofs.is_worked.Reads as is-worked-reads
 
--- what each test said where it passed
-below : (b : tie.Else1) → let a = b .before .before .before .before .args in rowsBelow (a .p) (a .s .now) (a .n) (a .deg + 1) 0 (a .h) ≡ true
-below b = sym (b .before .rows-below .ensures) ∙ not-false _ (b .if1 .left)
+-- src/lib.rt:135:16
+add-end : tie.Need-add-end
+add-end c = search needs
 
-rest : (b : tie.Else2) → let a = b .before .before .before .before .before .before .args in rowsBelow 1 (a .s .now) (a .n) (a .deg + 1) (a .h) (a .n) ≡ true
-rest b = sym (b .before .rows-below2 .ensures) ∙ not-false _ (b .if2 .left)
+-- src/lib.rt:135:15
+mul-end : tie.Need-mul-end
+mul-end c = search needs
 
-low : (b : tie.Else3) → let a = b .before .before .before .before .before .before .before .before .args in rowsBelow 1 (a .s .now) (a .n) (a .d) 0 1 ≡ true
-low b = sym (b .before .rows-below3 .ensures) ∙ not-false _ (b .if3 .left)
+-- src/lib.rt:137:35
+slice-aggregate-is-worked : tie.Need-slice-aggregate-is-worked
+slice-aggregate-is-worked c = let a = c .before .before .before .args in sym (length-take-le ((a .deg + 1) * a .n) (a .s .now) (c .before .before .before .pre .1))
 
--- row d lies within the words
-inside : (b : tie.Else3) → let a = b .before .before .before .before .before .before .before .before .args in (a .d * a .n + a .n ≤ (a .deg + 1) * a .n) × ((a .deg + 1) * a .n ≤ 8448)
-inside b =
-    let a = b .before .before .before .before .before .before .before .before .args in
-    (row-fits (a .d) (a .deg + 1) (a .n) (omega arith), few-words (a .deg + 1) (a .n) (omega arith) (b .before .before .before .before .before .before .before .before .pre .9))
+-- src/lib.rt:137:46
+array-borrow-prefix-rows : tie.Need-array-borrow-prefix-rows
+array-borrow-prefix-rows c = let a = c .before .before .before .args in let g = c .before .before .before .pre .0 in few-words (a .deg + 1) (a .n) (omega (arith, g .degree-high)) (g .width-high)
 
-add-rows : tie.Need-add-rows
-add-rows c = search needs
+-- src/lib.rt:137:46
+slice-aggregate-is-worked-2 : tie.Need-slice-aggregate-is-worked-2
+slice-aggregate-is-worked-2 c = let a = c .before .before .before .before .args in let g = c .before .before .before .before .pre .0 in sym (lent-long 8448 ((a .deg + 1) * a .n) (few-words (a .deg + 1) (a .n) (omega (arith, g .degree-high)) (g .width-high)))
 
-rows-below-requires : tie.Need-rows-below-requires
-rows-below-requires c κs = let h = c .before .before .pre in (h .2, omega arith, h .8)
+-- src/lib.rt:137:5
+is-worked-requires : tie.Need-is-worked-requires
+is-worked-requires c κs =
+    let a = c .before .before .before .before .args in
+    let r = c .before .before .before .before .pre in
+    let g = r .0 in
+    (g, length-take-le ((a .deg + 1) * a .n) (a .s .now) (r .1), lent-long 8448 ((a .deg + 1) * a .n) (few-words (a .deg + 1) (a .n) (omega (arith, g .degree-high)) (g .width-high)), r .2, r .3)
 
+-- src/lib.rt:131:1
 returns : tie.Need-returns
 returns c =
-    let a = c .before .before .before .before .args in
-    pair-fails-first (a .p) (a .deg) (a .n) (a .f .now) (a .h) (a .s .now) (a .d) (c .before .before .before .before .pre .4) (c .before .rows-below .ensures) (c .if1 .taken)
-
-rows-below-requires-2 : tie.Need-rows-below-requires-2
-rows-below-requires-2 c κs = let h = c .before .before .before .before .pre in (h .2, h .8, omega arith)
-
-returns-2 : tie.Need-returns-2
-returns-2 c =
     let a = c .before .before .before .before .before .before .args in
-    pair-fails-rest (a .p) (a .deg) (a .n) (a .f .now) (a .h) (a .s .now) (a .d) (c .before .before .before .before .before .before .pre .4) (c .before .rows-below2 .ensures) (c .if2 .taken)
-
-rows-below-requires-3 : tie.Need-rows-below-requires-3
-rows-below-requires-3 c κs =
-    let a = c .before .before .before .before .before .before .args in
-    let l = seam-fits (a .deg) (a .n) (a .d) (c .before .before .before .before .before .before .pre .5) in
-    (omega arith, omega arith, omega arith)
-
-returns-3 : tie.Need-returns-3
-returns-3 c =
-    let a = c .before .before .before .before .before .before .before .before .args in
-    pair-fails-low (a .p) (a .deg) (a .n) (a .f .now) (a .h) (a .s .now) (a .d) (c .before .before .before .before .before .before .before .before .pre .4) (c .before .rows-below3 .ensures) (c .if3 .taken)
-
-mul-if4 : tie.Need-mul-if4
-mul-if4 c = let l = inside c in omega arith
-
-mul-if4-2 : tie.Need-mul-if4-2
-mul-if4-2 c = let l = inside c in omega arith
-
-shared-slice-read-if4 : tie.Need-shared-slice-read-if4
-shared-slice-read-if4 c = let l = inside (c .before) in omega arith
-
-returns-4 : tie.Need-returns-4
-returns-4 c = let a = c .before .before .before .before .before .before .before .before .before .before .args in pair-fails-unit (a .p) (a .deg) (a .n) (a .f .now) (a .h) (a .s .now) (a .d) (c .before .before .before .before .before .before .before .before .before .before .pre .4) (c .if4 .taken)
-
-same-products-requires : tie.Need-same-products-requires
-same-products-requires c κs =
-    let a = c .before .before .before .before .before .before .before .before .before .before .args in
-    let h = c .before .before .before .before .before .before .before .before .before .before .pre in
-    (h .0, h .1, h .2, h .3, h .5, h .6, h .9, h .8, words-below (a .p) (a .s .now) (a .n) (a .deg + 1) (a .h) (h .0) (h .7) (h .8) (below (c .before .before .before .before .before .before)) (rest (c .before .before .before .before)))
-
-returns-5 : tie.Need-returns-5
-returns-5 c =
-    let a = c .before .before .before .before .before .before .before .before .before .before .before .args in
-    pair-last (a .p) (a .deg) (a .n) (a .f .now) (a .h) (a .s .now) (a .d) (c .before .before .before .before .before .before .before .before .before .before .before .pre .4) _ (below (c .before .before .before .before .before .before .before)) (rest (c .before .before .before .before .before)) (low (c .before .before .before)) (c .before .if4 .left) (c .same-products .ensures)
+    let r = c .before .before .before .before .before .before .pre in
+    let g = r .0 in
+    pair-decided (a .p) (a .deg) (a .n) (a .f .now) (a .h) (a .s .now) (g .prime) (subst (λ x. x ≤ a .deg) (g .ordered) (g .bound)) (r .2) (r .3) (r .1) (c .before .is-worked .ensures)
 
 pub is-pair-spec : {M : Type 1} → statement M
 is-pair-spec =
     tie.close
     (tie.spec
-    add-rows
-    rows-below-requires
-    returns
-    rows-below-requires-2
-    returns-2
-    rows-below-requires-3
-    returns-3
-    mul-if4
-    mul-if4-2
-    shared-slice-read-if4
-    returns-4
-    same-products-requires
-    returns-5)
+    add-end
+    mul-end
+    slice-aggregate-is-worked
+    array-borrow-prefix-rows
+    slice-aggregate-is-worked-2
+    is-worked-requires
+    returns)

@@ -1,24 +1,32 @@
--- `pair::pair` meets its contract: the pair to one term, and then lifted.
+-- `pair::pair` meets its contract: the first words of the output are lent to the lift.
 -- Assumes nothing.
-use mathlib.Core.Path.{_≡_, sym, _∙_}
+use mathlib.Core.Path.{sym, _∙_}
+use Prim.Native.Nat.{_+_}
 use native.Mathlib.Omega.{arith}
-use lib.ListN.{length}
-use Rattle.numbers.specs.Refusals.{judge}
-use Rattle.numbers.specs.declared.refusal.Verdict.the-variants.{Pass}
-use Rattle.numbers.proofs.RefusalsLaws.{leave-refused, leave-done}
-use Rattle.pair.specs.Paired.{pairChecks, PairDone}
-use Rattle.pair.proofs.LiftLaws.{done-step}
-use Rattle.pair.proofs.AnswerLaws.{PairInput, pair-pass, lifting-of, start-done}
+use Rattle.numbers.proofs.RefusalsLaws.{few-words, leave-refused, leave-done}
+use Rattle.pair.proofs.AnswerLaws.{operation-of, pair-pass, given-of, lent-long, lent-held, lifted-done}
 use borrow.Author.Needs.{needs}
 use Rattle.pair.proofs.pair.Statement.{statement}
 use Rattle.pair.proofs.pair.Tie as tie
+use Rattle.pair.proofs.pair.Reads as reads
+use Rattle.pair.proofs.pair.Lts as lts
+use Rattle.pair.proofs.check_pair.Reads as check-pair-reads
+use Rattle.pair.proofs.lift.Reads as lift-reads
+use Rattle.pair.proofs.order_of.Reads as order-of-reads
 
+-- src/lib.rt:240:33
 check-pair-requires : tie.Need-check-pair-requires
 check-pair-requires c κs = search needs
 
+-- src/lib.rt:240:28
 enum-known-r : tie.Need-enum-known-r
 enum-known-r c = search needs
 
+-- src/lib.rt:241:9
+same-length : tie.Need-same-length
+same-length c = search needs
+
+-- src/lib.rt:241:9
 returns : tie.Need-returns
 returns c =
     let r = leave-refused _ _ _ _ (sym (c .before .before .before .check-pair .ensures) ∙ c .before .r .given .1) in
@@ -27,48 +35,63 @@ returns c =
 enum-told : tie.Need-enum-told
 enum-told c = search needs
 
--- where the check has passed
-passed : (b : tie.After-enum-told) → let a = b .before .before .before .before .before .args in judge (pairChecks (a .p) (a .d) (a .n) (a .f .now) (a .w) (length (a .out .now))) ≡ Pass
-passed b = sym (b .before .before .check-pair .ensures) ∙ b .enum-told .given .1
-
-input : (b : tie.After-enum-told) → let a = b .before .before .before .before .before .args in PairInput (a .p) (a .d) (a .n) (a .f .now) (a .w) (length (a .out .now))
-input b = pair-pass _ _ _ _ _ _ (passed b)
-
--- the pair to one term is there
-started : (b : tie.After-start) → let a = b .before .before .before .before .before .before .before .before .args in PairDone (a .p) (a .d) (a .n) (a .f .now) 1 (a .out .now) (b .start .last .1 .1 .1 .0)
-started b = let a = b .before .before .before .before .before .before .before .before .args in start-done (a .p) (a .d) (a .n) (a .f .now) (a .out .now) _ (input (b .before .before .before) .first) (b .start .ensures)
-
+-- src/lib.rt:245:36
 add-order-of : tie.Need-add-order-of
 add-order-of c = search needs
 
+-- src/lib.rt:245:9
 order-of-requires : tie.Need-order-of-requires
-order-of-requires c κs = let g = input c .first .operation .inputs in (g .f-long, g .width-low, g .width-high, g .high)
+order-of-requires c κs =
+    let a = c .before .before .before .before .before .before .args in
+    let i = operation-of (pair-pass (a .p) (a .d) (a .n) (a .f .now) (a .h) (a .w) (a .out .now) (sym (c .before .before .check-pair .ensures) ∙ c .enum-told .given .1)) .inputs in
+    (i .f-long, i .width-low, i .width-high, i .high)
 
-add-start : tie.Need-add-start
-add-start c = search needs
+-- src/lib.rt:246:16
+add-end : tie.Need-add-end
+add-end c = search needs
 
-start-requires : tie.Need-start-requires
-start-requires c κs = let o = input (c .before .before) .first .operation in (o .inputs .f-long, o .inputs .width-low, o .inputs .width-high, o .inputs .high, o .roomy)
+-- src/lib.rt:246:15
+mul-end : tie.Need-mul-end
+mul-end c =
+    let a = c .before .before .before .before .before .before .before .args in
+    let i = operation-of (pair-pass (a .p) (a .d) (a .n) (a .f .now) (a .h) (a .w) (a .out .now) (sym (c .before .before .before .check-pair .ensures) ∙ c .before .enum-told .given .1)) .inputs in
+    omega (arith, few-words (a .d + 1) (a .n) (i .high) (i .width-high))
 
+-- src/lib.rt:247:59
+slice-relend-prefix-lift : tie.Need-slice-relend-prefix-lift
+slice-relend-prefix-lift c =
+    let a = c .before .before .before .before .before .before .before .args in
+    operation-of (pair-pass (a .p) (a .d) (a .n) (a .f .now) (a .h) (a .w) (a .out .now) (sym (c .before .before .before .check-pair .ensures) ∙ c .before .enum-told .given .1)) .roomy
+
+-- src/lib.rt:247:59
+slice-aggregate-lift : tie.Need-slice-aggregate-lift
+slice-aggregate-lift c =
+    let a = c .before .before .before .before .before .before .before .before .args in
+    sym (lent-long (a .p) (a .d) (a .n) (a .f .now) (a .h) (a .w) (a .out .now) (pair-pass (a .p) (a .d) (a .n) (a .f .now) (a .h) (a .w) (a .out .now) (sym (c .before .before .before .before .check-pair .ensures) ∙ c .before .before .enum-told .given .1)))
+
+-- src/lib.rt:247:5
 lift-requires : tie.Need-lift-requires
 lift-requires c κs =
-    let i = input (c .before .before .before .before .before .before) in
-    let s = started (c .before .before .before) in
-    (lifting-of (i .first) (c .before .before .before .before .before .order-of .ensures) (let z = s .long in omega arith) (s .words), omega arith, omega (arith, i .low), omega (arith, i .low, i .high))
+    let a = c .before .before .before .before .before .before .before .before .args in
+    let i = pair-pass (a .p) (a .d) (a .n) (a .f .now) (a .h) (a .w) (a .out .now) (sym (c .before .before .before .before .check-pair .ensures) ∙ c .before .before .enum-told .given .1) in
+    let b = i .bound in
+    (given-of (operation-of i) (c .before .order-of .ensures) (omega (arith, c .before .order-of .ensures)), lent-long (a .p) (a .d) (a .n) (a .f .now) (a .h) (a .w) (a .out .now) i, lent-held (a .p) (a .d) (a .n) (a .f .now) (a .h) (a .w) (a .out .now) i, i .upto, i .low, i .high)
 
-cast-t18 : tie.Need-cast-t18
-cast-t18 c =
-    let i = input (c .before .before .before .before .before .before .before .before .before) in
-    let b = i .first .bound in
-    let h = i .first .operation .inputs .high in
-    omega (arith, c .before .before .before .before .before .before .before .before .order-of .ensures)
+-- src/lib.rt:248:18
+cast-t21 : tie.Need-cast-t21
+cast-t21 c = search needs
 
-same-length : tie.Need-same-length
-same-length c = search needs
+-- src/lib.rt:237:1
+same-length-2 : tie.Need-same-length-2
+same-length-2 c = search needs
 
+-- src/lib.rt:237:1
 returns-2 : tie.Need-returns-2
 returns-2 c =
-    let r = leave-done _ _ _ (c .before .before .before .before .before .before .before .before .before .before .before .before .before .before .args .out .now) _ (passed (c .before .before .before .before .before .before .before .before .before)) (c .before .before .before .before .before .before .before .before .order-of .ensures) (done-step (started (c .before .before .before .before .before .before)) (c .before .before .lift .ensures)) in
+    let a = c .before .before .before .before .before .before .before .before .before .before .before .args in
+    let e = sym (c .before .before .before .before .before .before .before .check-pair .ensures) ∙ c .before .before .before .before .before .enum-told .given .1 in
+    let i = pair-pass (a .p) (a .d) (a .n) (a .f .now) (a .h) (a .w) (a .out .now) e in
+    let r = leave-done _ _ _ (a .out .now) _ e (c .before .before .before .before .order-of .ensures) (lifted-done (a .p) (a .d) (a .n) (a .f .now) (a .h) (a .w) (a .out .now) i _ (c .before .before .lift .ensures .0 ∙ lent-long (a .p) (a .d) (a .n) (a .f .now) (a .h) (a .w) (a .out .now) i) (c .before .before .lift .ensures .1)) in
     record { answers = r .0; leaves = r .1 }
 
 pub pair-spec : {M : Type 1} → statement M
@@ -77,13 +100,16 @@ pair-spec =
     (tie.spec
     check-pair-requires
     enum-known-r
+    same-length
     returns
     enum-told
     add-order-of
     order-of-requires
-    add-start
-    start-requires
+    add-end
+    mul-end
+    slice-relend-prefix-lift
+    slice-aggregate-lift
     lift-requires
-    cast-t18
-    same-length
+    cast-t21
+    same-length-2
     returns-2)

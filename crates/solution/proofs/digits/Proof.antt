@@ -69,9 +69,8 @@ loop-again : tie.Need-loop-again Inv-loop μ-loop
 loop-again c =
     let digit = c .before .before .before .before .digit in
     let a = start (c .before .before .before .before .before) .args in
-    let r = start (c .before .before .before .before .before) .pre in
     let l = c .before .before .before .before .before .before .before .before .before .loop in
-    let x = digits-step (a .p) (a .c .now) (a .a .now) (l .l) (a .e .now) (l .e) _ (r .6) (omega arith) (omega arith) (l .inv .3) (digit .ensures .1) in
+    let x = digits-step (a .p) (a .c .now) (a .a .now) (l .l) (a .e .now) (l .e) _ (omega arith) (l .inv .3) (digit .ensures .1) in
     (omega arith, digit .ensures .0 ∙ l .inv .1, x .long, x)
 
 same-length : tie.Need-same-length Inv-loop μ-loop

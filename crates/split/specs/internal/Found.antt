@@ -7,7 +7,6 @@
 --   RootsListed ..               what `find_factors` is given
 --   SplitsAtZero ..         at X = 0 the polynomial is the product of the powers of Y − c
 --   Splitting ..            both
---   Cleared ..              columns from w up are 0, those below it are as they were
 --   FactorsTo ..            the rows are those of the factors (`IsFactors`) to w terms, with 0 from column w up
 --   Found ..                whether there are factors, and then which
 -- Assumes nothing.
@@ -88,13 +87,6 @@ SplitsAtZero p N roots powers s = (j : ℕ) → j ≤ sumTo (length powers) (wor
 pub record Splitting (p N w : ℕ) (roots powers s : List ℕ) : Type 0 where
   pub listed : RootsListed p N w roots powers s
   pub splits : SplitsAtZero p N roots powers s
-
--- the columns from w up are 0, those below it are as they were
-pub record Cleared (N w rows : ℕ) (old new : List ℕ) : Type 0 where
-  pub long : length new ≡ length old
-  pub kept : (j : ℕ) → j < rows → (t : ℕ) → t < w → word new (j * N + t) ≡ word old (j * N + t)
-  pub none : (j : ℕ) → j < rows → (t : ℕ) → w ≤ t → t < N → word new (j * N + t) ≡ 0
-  pub past : (z : ℕ) → rows * N ≤ z → word new z ≡ word old z
 
 -- the rows are those of THE factors to w terms; the columns from w up are 0
 pub record FactorsTo (p N w : ℕ) (roots powers old new : List ℕ) : Type 0 where

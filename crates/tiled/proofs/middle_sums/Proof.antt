@@ -32,7 +32,7 @@ loop-holds : tie.Need-loop-holds Inv-loop μ-loop
 loop-holds c =
     let a = start c .args in
     let r = start c .pre in
-    let x = sums-none (a .t) (a .n) (8 * a .blocks) (a .m) (a .pairs .now) (a .tiles .now) (a .sums .now) _ (r .7) (c .before .before .clear-sums .ensures) in
+    let x = sums-none (a .t) (a .n) (8 * a .blocks) (a .paired) (a .pairs .now) (a .tiles .now) (a .sums .now) _ (r .7) (c .before .before .clear-sums .ensures) in
     (omega arith, x .0, x .1)
 
 mul-row : tie.Need-mul-row Inv-loop μ-loop
@@ -41,7 +41,7 @@ mul-row c = search needs
 mul-row-2 : tie.Need-mul-row-2 Inv-loop μ-loop
 mul-row-2 c =
     let a = start (c .before .before) .args in
-    let z = row-fits (c .before .loop .a) (a .m) (2 * a .n) (omega arith) in
+    let z = row-fits (c .before .loop .a) (a .paired) (2 * a .n) (omega arith) in
     omega arith
 
 mul-end : tie.Need-mul-end Inv-loop μ-loop
@@ -53,25 +53,25 @@ add-end c = search needs
 mul-tile-row : tie.Need-mul-tile-row Inv-loop μ-loop
 mul-tile-row c =
     let a = start (c .before .before) .args in
-    let z = row-fits (c .before .loop .a) (a .m) (2 * a .n) (omega arith) in
+    let z = row-fits (c .before .loop .a) (a .paired) (2 * a .n) (omega arith) in
     omega arith
 
 sub-tile-row : tie.Need-sub-tile-row Inv-loop μ-loop
 sub-tile-row c =
     let a = start (c .before .before) .args in
-    let z = row-fits (c .before .loop .a) (a .m) (2 * a .n) (omega arith) in
+    let z = row-fits (c .before .loop .a) (a .paired) (2 * a .n) (omega arith) in
     omega arith
 
 part-tile-row-start : tie.Need-part-tile-row-start Inv-loop μ-loop
 part-tile-row-start c =
     let a = start (c .before .before) .args in
-    let z = row-fits (c .before .loop .a) (a .m) (2 * a .n) (omega arith) in
+    let z = row-fits (c .before .loop .a) (a .paired) (2 * a .n) (omega arith) in
     omega arith
 
 part-tile-row-end : tie.Need-part-tile-row-end Inv-loop μ-loop
 part-tile-row-end c =
     let a = start (c .before .before) .args in
-    let z = row-fits (c .before .loop .a) (a .m) (2 * a .n) (omega arith) in
+    let z = row-fits (c .before .loop .a) (a .paired) (2 * a .n) (omega arith) in
     omega arith
 
 mul-tile-row-2 : tie.Need-mul-tile-row-2 Inv-loop μ-loop
@@ -97,12 +97,12 @@ tile-row-requires c κs =
       omega arith,
       r .3,
       r .4,
-      row-room (a .t) (a .n) (a .m) (l .a) (a .pairs .now) (omega arith) (r .2) (r .5),
+      row-room (a .t) (a .n) (a .paired) (l .a) (a .pairs .now) (omega arith) (r .2) (r .5),
       r .6,
-      part-long (a .m) (8 * a .blocks) _ (l .a) (l .sums) (omega arith) q (l .inv .1),
+      part-long (a .paired) (8 * a .blocks) _ (l .a) (l .sums) (omega arith) q (l .inv .1),
       from-below modulusBound (a .pairs .now) (l .a * (2 * a .n)) (r .8),
       r .9,
-      part-below 2305843009213693952 (a .m) (8 * a .blocks) _ (l .a) (l .sums) (omega arith) q (l .inv .1)
+      part-below 2305843009213693952 (a .paired) (8 * a .blocks) _ (l .a) (l .sums) (omega arith) q (l .inv .1)
           (λ j g. subst (λ v. v < 2305843009213693952) (sym (l .inv .2 j g)) (sums-bound (a .t) (a .n) (8 * a .blocks) (a .pairs .now) (a .tiles .now) (omega arith) (r .8) (r .9) (l .a) j (omega arith))),
     )
 
@@ -116,7 +116,7 @@ loop-again : tie.Need-loop-again Inv-loop μ-loop
 loop-again c =
     let a = start (c .before .before .before .before .before .before .before) .args in
     let l = c .before .before .before .before .before .before .loop in
-    let x = sums-step (a .t) (a .n) (8 * a .blocks) (a .m) _ (a .pairs .now) (a .tiles .now) (l .sums) _ (l .a) (omega arith) (add-sub-cancel-left (l .a) (8 * a .blocks)) (l .inv .1) (l .inv .2) (c .before .before .tile-row .ensures) in
+    let x = sums-step (a .t) (a .n) (8 * a .blocks) (a .paired) _ (a .pairs .now) (a .tiles .now) (l .sums) _ (l .a) (omega arith) (add-sub-cancel-left (l .a) (8 * a .blocks)) (l .inv .1) (l .inv .2) (c .before .before .tile-row .ensures) in
     (omega arith, x .0, x .1)
 
 same-length : tie.Need-same-length Inv-loop μ-loop
@@ -128,7 +128,7 @@ returns : tie.Need-returns Inv-loop μ-loop
 returns c =
     let a = start (c .before .before) .args in
     let l = c .before .loop in
-    sums-all (a .t) (a .n) (8 * a .blocks) (a .m) (a .pairs .now) (a .tiles .now) (l .sums) (l .a) (omega arith) (l .inv .1) (l .inv .2)
+    sums-all (a .t) (a .n) (8 * a .blocks) (a .paired) (a .pairs .now) (a .tiles .now) (l .sums) (l .a) (omega arith) (l .inv .1) (l .inv .2)
 
 pub middle-sums-spec : {M : Type 1} → statement M
 middle-sums-spec =

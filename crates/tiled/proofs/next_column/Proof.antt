@@ -1,6 +1,6 @@
 -- `tiled::next_column` meets its contract: the sums of a column, and then the solutions, each times its weight, in words of its own.
 -- Assumes nothing.
-use mathlib.Core.Path.{_≡_, sym, _∙_}
+use mathlib.Core.Path.{sym}
 use Prim.Native.Nat.{_+_, _*_}
 use native.Mathlib.Omega.{arith}
 use Rattle.tiled.proofs.TiledLaws.{made-long, left-small, column-is, lent-long}
@@ -28,15 +28,15 @@ array-borrow-prefix-sums : tie.Need-array-borrow-prefix-sums
 array-borrow-prefix-sums c = search needs
 
 slice-aggregate-gather-tiles : tie.Need-slice-aggregate-gather-tiles
-slice-aggregate-gather-tiles c = let s = (start c .pre) .0 in let h = s .m-high in let f = s .few in sym (lent-long 80 _ (omega arith))
+slice-aggregate-gather-tiles c = let s = (start c .pre) .0 in let h = s .paired-high in let f = s .few in sym (lent-long 80 _ (omega arith))
 
 gather-tiles-requires : tie.Need-gather-tiles-requires
 gather-tiles-requires c κs =
     let r = start (c .before) .pre in
     let s = r .0 in
-    let h = s .m-high in
+    let h = s .paired-high in
     let f = s .few in
-    (s .some, s .small, s .m-high, s .room, s .lanes, s .few, s .width, r .1, r .2, r .4, r .5, lent-long 80 _ (omega arith), r .7, r .8)
+    (s .some, s .small, s .paired-high, s .room, s .lanes, s .few, s .width, r .1, r .2, r .4, r .5, lent-long 80 _ (omega arith), r .7, r .8)
 
 add-partners : tie.Need-add-partners
 add-partners c = search needs

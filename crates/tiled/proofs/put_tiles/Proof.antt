@@ -1,107 +1,143 @@
--- `tiled::put_tiles` meets its contract.
+-- `tiled::put_tiles` meets its contract, either way round.
 -- Assumes nothing.
-use mathlib.Core.Path.{sym}
+use mathlib.Core.Path.{_≡_, sym, ap, _∙_}
+use mathlib.Core.Logic.{⊎-elim}
 use Prim.Native.Nat.{_*_}
 use native.Mathlib.Omega.{arith}
-use lib.ListN.{take}
-use borrow.Author.Needs.{needs}
+use lib.ListN.{length}
 use lib.Seq.{length-take-le}
-use Rattle.numbers.proofs.WordsLaws.{length-from}
-use Rattle.solution.proofs.StepLaws.{store-fits}
-use Rattle.tiled.proofs.TiledLaws.{tiled-next}
+use Rattle.numbers.specs.internal.Limits.{modulusBound}
+use Rattle.numbers.proofs.WordsLaws.{from, length-from, from-below}
+use Rattle.columns.proofs.ColumnLaws.{take-below}
+use Rattle.tiled.proofs.TiledLaws.{beside-low, beside-high}
+use borrow.Author.Needs.{needs}
 use Rattle.tiled.proofs.put_tiles.Statement.{statement}
 use Rattle.tiled.proofs.put_tiles.Tie as tie
+use Rattle.tiled.proofs.put_tiles.Reads as reads
+use Rattle.tiled.proofs.put_tiles.Lts as lts
+use Rattle.tiled.proofs.put_sides.Reads as put-sides-reads
 
--- where the function begins, seen from later places
-abbrev start : (b : tie.After-store-wide-arg2) → tie.Start
-start b = b .before .before .before .before .before
+-- src/lib.rt:151:19
+slice-aggregate-put-sides : tie.Need-slice-aggregate-put-sides
+slice-aggregate-put-sides c = let a = c .before .before .before .before .before .args in sym (length-take-le (a .m) (a .column .now) (omega arith))
 
-abbrev start-put-column-arg2 : (b : tie.After-put-column-arg2) → tie.Start
-start-put-column-arg2 b = start (b .before .before .before .before .before .before .before .before .before .before)
+-- src/lib.rt:151:33
+mul-put-sides : tie.Need-mul-put-sides
+mul-put-sides c = search needs
 
-mul-low : tie.Need-mul-low
-mul-low c = search needs
+-- src/lib.rt:151:33
+sub-put-sides : tie.Need-sub-put-sides
+sub-put-sides c = search needs
 
-slice-aggregate-store-wide : tie.Need-slice-aggregate-store-wide
-slice-aggregate-store-wide c =
-    let a = c .before .before .before .before .args in
-    sym (length-take-le (a .m) (a .column .now) (omega arith))
+-- src/lib.rt:151:33
+part-put-sides-start : tie.Need-part-put-sides-start
+part-put-sides-start c = search needs
 
-mul-store-wide : tie.Need-mul-store-wide
-mul-store-wide c = search needs
+-- src/lib.rt:151:33
+part-put-sides-end : tie.Need-part-put-sides-end
+part-put-sides-end c = search needs
 
-store-wide-requires : tie.Need-store-wide-requires
-store-wide-requires c κs =
-    let a = start c .args in
-    let r = start c .pre in
-    let n = length-take-le (a .m) (a .column .now) (omega arith) in
-    (omega arith, omega arith, omega (arith, n), store-fits (a .m) (2 * a .n) (take (a .m) (a .column .now)) (a .pairs .now) n (r .7))
+-- src/lib.rt:151:9
+put-sides-requires : tie.Need-put-sides-requires
+put-sides-requires c κs =
+    let a = c .before .before .before .before .before .before .before .before .args in
+    let r = c .before .before .before .before .before .before .before .before .pre in
+    let e : a .paired ≡ a .m = c .before .before .before .before .if1 .taken in
+    let nl = length-take-le (a .m) (a .column .now) (omega arith) in
+    let nh = length-from (a .column .now) (a .m) in (
+      omega (arith, nl, r .0),
+      omega (arith, nh, r .2, r .6, e),
+      r .3,
+      r .4,
+      r .5,
+      take-below modulusBound (a .m) (a .column .now) (omega arith) (r .7),
+      from-below modulusBound (a .column .now) (a .m) (r .7),
+      r .8 ∙ ap (λ x. x * (2 * a .n)) (e ∙ sym nl),
+      r .9,
+    )
 
-slice-aggregate-store-wide-2 : tie.Need-slice-aggregate-store-wide-2
-slice-aggregate-store-wide-2 c =
-    let a = start (c .before .before .before .before) .args in
-    sym (length-take-le (a .m) (a .column .now) (omega arith))
+-- src/lib.rt:153:19
+mul-put-sides-2 : tie.Need-mul-put-sides-2
+mul-put-sides-2 c = search needs
 
-mul-store-wide-2 : tie.Need-mul-store-wide-2
-mul-store-wide-2 c = search needs
+-- src/lib.rt:153:19
+sub-put-sides-2 : tie.Need-sub-put-sides-2
+sub-put-sides-2 c = search needs
 
-add-store-wide : tie.Need-add-store-wide
-add-store-wide c = search needs
+-- src/lib.rt:153:19
+part-put-sides-start-2 : tie.Need-part-put-sides-start-2
+part-put-sides-start-2 c = search needs
 
-store-wide-requires-2 : tie.Need-store-wide-requires-2
-store-wide-requires-2 c κs =
-    let a = start (c .before .before .before .before .before) .args in
-    let r = start (c .before .before .before .before .before) .pre in
-    let n = length-take-le (a .m) (a .column .now) (omega arith) in
-    (omega arith, omega arith, omega (arith, n), let z = store-fits (a .m) (2 * a .n) (take (a .m) (a .column .now)) (a .pairs .now) n (r .7) in let q = c .before .before .before .before .store-wide .ensures .long in omega arith)
+-- src/lib.rt:153:19
+part-put-sides-end-2 : tie.Need-part-put-sides-end-2
+part-put-sides-end-2 c = search needs
 
-mul-put-column : tie.Need-mul-put-column
-mul-put-column c = search needs
+-- src/lib.rt:153:33
+slice-aggregate-put-sides-2 : tie.Need-slice-aggregate-put-sides-2
+slice-aggregate-put-sides-2 c = let a = c .before .before .before .before .before .before .args in sym (length-take-le (a .m) (a .column .now) (omega arith))
 
-sub-put-column : tie.Need-sub-put-column
-sub-put-column c = search needs
+-- src/lib.rt:153:9
+put-sides-requires-2 : tie.Need-put-sides-requires-2
+put-sides-requires-2 c κs =
+    let a = c .before .before .before .before .before .before .before .before .args in
+    let r = c .before .before .before .before .before .before .before .before .pre in
+    let e : a .paired ≡ a .k = ⊎-elim (λ (q : a .paired ≡ a .m). absurd (c .before .before .before .before .if1 .left q)) (λ (q : a .paired ≡ a .k). q) (r .1) in
+    let nl = length-take-le (a .m) (a .column .now) (omega arith) in
+    let nh : length (from (a .column .now) (a .m)) ≡ a .k = length-from (a .column .now) (a .m) ∙ omega (arith, r .6) in (
+      omega (arith, nh, r .0),
+      omega (arith, nl, r .2, e),
+      r .3,
+      r .4,
+      r .5,
+      from-below modulusBound (a .column .now) (a .m) (r .7),
+      take-below modulusBound (a .m) (a .column .now) (omega arith) (r .7),
+      r .8 ∙ ap (λ x. x * (2 * a .n)) (e ∙ sym nh),
+      r .9,
+    )
 
-part-put-column-start : tie.Need-part-put-column-start
-part-put-column-start c = search needs
-
-part-put-column-end : tie.Need-part-put-column-end
-part-put-column-end c = search needs
-
-put-column-requires : tie.Need-put-column-requires
-put-column-requires c κs =
-    let a = start-put-column-arg2 c .args in
-    let r = start-put-column-arg2 c .pre in
-    (r .4, r .3, r .2, omega (arith, length-from (a .column .now) (a .m)), r .8)
-
+-- src/lib.rt:134:1
 same-length : tie.Need-same-length
 same-length c = search needs
 
+-- src/lib.rt:134:1
 same-length-2 : tie.Need-same-length-2
 same-length-2 c = search needs
 
+-- src/lib.rt:134:1
 returns : tie.Need-returns
-returns c =
-    let a = start-put-column-arg2 (c .before .before .before) .args in
-    let r = start-put-column-arg2 (c .before .before .before) .pre in
-    λ old new h st. tiled-next (a .n) (a .m) (a .k) (a .blocks) (a .t) (a .column .now) old new (a .pairs .now) _ _ (a .tiles .now) _ (r .4) (r .1) (r .5) (r .6) (c .before .before .before .before .before .before .before .before .before .before .before .before .store-wide .ensures) (c .before .before .before .before .before .before .before .store-wide2 .ensures) (c .before .before .put-column .ensures) h st
+returns c = let a = c .before .before .before .before .before .before .before .before .before .before .before .before .before .args in let r = c .before .before .before .before .before .before .before .before .before .before .before .before .before .pre in beside-low (a .n) (a .m) (a .k) (a .paired) (a .blocks) (a .t) (a .column .now) (a .pairs .now) (a .tiles .now) _ _ (r .5) (r .6) (c .before .before .before .before .before .before .before .before .before .if1 .taken) (c .before .before .before .before .put-sides .ensures)
+
+-- src/lib.rt:134:1
+same-length-3 : tie.Need-same-length-3
+same-length-3 c = search needs
+
+-- src/lib.rt:134:1
+same-length-4 : tie.Need-same-length-4
+same-length-4 c = search needs
+
+-- src/lib.rt:134:1
+returns-2 : tie.Need-returns-2
+returns-2 c = let a = c .before .before .before .before .before .before .before .before .before .before .before .before .before .args in let r = c .before .before .before .before .before .before .before .before .before .before .before .before .before .pre in beside-high (a .n) (a .m) (a .k) (a .paired) (a .blocks) (a .t) (a .column .now) (a .pairs .now) (a .tiles .now) _ _ (r .5) (r .6) (c .before .before .before .before .before .before .before .before .before .if1 .left) (c .before .before .before .before .put-sides2 .ensures)
 
 pub put-tiles-spec : {M : Type 1} → statement M
 put-tiles-spec =
     tie.close
     (tie.spec
-    mul-low
-    slice-aggregate-store-wide
-    mul-store-wide
-    store-wide-requires
-    slice-aggregate-store-wide-2
-    mul-store-wide-2
-    add-store-wide
-    store-wide-requires-2
-    mul-put-column
-    sub-put-column
-    part-put-column-start
-    part-put-column-end
-    put-column-requires
+    slice-aggregate-put-sides
+    mul-put-sides
+    sub-put-sides
+    part-put-sides-start
+    part-put-sides-end
+    put-sides-requires
+    mul-put-sides-2
+    sub-put-sides-2
+    part-put-sides-start-2
+    part-put-sides-end-2
+    slice-aggregate-put-sides-2
+    put-sides-requires-2
     same-length
     same-length-2
-    returns)
+    returns
+    same-length-3
+    same-length-4
+    returns-2)

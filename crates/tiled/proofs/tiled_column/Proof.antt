@@ -4,7 +4,7 @@ use mathlib.Core.Path.{refl}
 use Prim.Native.Nat.{_+_}
 use native.Mathlib.Omega.{arith}
 use Rattle.solution.proofs.StepLaws.{store-room, step-is}
-use Rattle.tiled.proofs.TiledLaws.{column-small}
+use Rattle.tiled.proofs.TiledLaws.{column-small, beside-long}
 use borrow.Author.Needs.{needs}
 use Rattle.tiled.proofs.tiled_column.Statement.{statement}
 use Rattle.tiled.proofs.tiled_column.Tie as tie
@@ -29,7 +29,8 @@ put-tiles-requires c κs =
     let r = start (c .before .before .before .before .before .before) .pre in
     let s = r .0 in
     let w = c .before .before .before .before .before .before .before .before .before .before .before .before .next-column .ensures in
-    (s .room, s .lanes, s .few, s .width, r .2, w .1 .0, column-small (a .p) (a .m + a .k) (a .table .now) _ _ (s .some) (s .small) (w .1 .1), r .7 .pairs-long, r .7 .tiles-long)
+    let long = beside-long (a .n) (a .m) (a .k) (a .paired) (a .blocks) (a .t) (a .rows .now) (a .pairs .now) (a .tiles .now) (r .7) in
+    (s .room, s .either, s .lanes, s .few, s .width, r .2, w .1 .0, column-small (a .p) (a .m + a .k) (a .table .now) _ _ (s .some) (s .small) (w .1 .1), long .0, long .1)
 
 same-length : tie.Need-same-length
 same-length c = search needs

@@ -86,11 +86,7 @@ factor-rows-split-node-requires t c κs =
         below = h .c-below;
         apart = node-apart (a .p) (a .n) (a .w) (a .powers .now) (a .c .now) (a .rows .now) (a .rows .now) h mid lo hi m em;
       },
-      h .width,
-      h .terms-low,
-      h .terms-high,
-      h .long,
-      h .below,
+      record { width = h .width; from-low = omega arith; from-high = h .terms-low; terms-high = h .terms-high; long = h .long; below = h .below },
     )
 
 factor-rows-mul-seam : (t : ℕ) → factor-rows-lts.Need-mul-seam (claims t) (factor-rows-at t) factor-rows.Post

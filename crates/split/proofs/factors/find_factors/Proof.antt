@@ -7,7 +7,8 @@ use borrow.Author.Tests.{not-true, not-false}
 use lib.ListN.{length}
 use Rattle.algebra.specs.Sums.{sumTo}
 use Rattle.numbers.specs.Words.{word}
-use Rattle.split.specs.internal.Found.{Cleared, Splitting}
+use Rattle.columns.specs.internal.Column.{ColumnsSet}
+use Rattle.split.specs.internal.Found.{Splitting}
 use Rattle.split.proofs.FactorsToLaws.{spread-below, begins-splits, splits-begins, found-some, found-none, cleared-splitting, cleared-factors, ready, factors-done}
 use borrow.Author.Needs.{needs}
 use Rattle.split.proofs.factors.find_factors.Statement.{statement}
@@ -74,7 +75,7 @@ factor-rows-requires c κs =
     let e = spread .ensures .0 ∙ r .1 in
     let s1 = clear .last .1 .1 .1 .0 in
     let fits = begins-splits (a .p) (a .n) (a .w) (a .roots .now) (a .powers .now) (a .rows .now) (r .0) _ e (spread .ensures .1) _ (c .before .before .before .before .before .before .before .before .before .before .before .before .product-of .ensures) (begins .ensures .yes (not-false (begins .result) (c .before .before .before .before .before .before .if1 .left))) in
-    let cl = subst (λ x. Cleared (a .n) (a .w) x (a .rows .now) s1) e (clear .ensures) in
+    let cl = subst (λ x. ColumnsSet (a .n) (a .w) (a .n) x (λ _ _. 0) (a .rows .now) s1) e (clear .ensures) in
     let sp = cleared-splitting (a .p) (a .n) (a .w) (a .roots .now) (a .powers .now) (a .rows .now) s1 (record { listed = r .0; splits = fits }) cl in
     ready (a .p) (a .n) (a .w) (a .roots .now) (a .powers .now) s1 sp _ e (spread .ensures .1)
 
@@ -98,10 +99,10 @@ returns-2 c =
     let s1 = clear .last .1 .1 .1 .0 in
     let fits = begins-splits (a .p) (a .n) (a .w) (a .roots .now) (a .powers .now) (a .rows .now) (r .0) _ e (spread .ensures .1) _ (c .before .before .before .before .before .before .before .before .before .before .before .before .before .before .before .product-of .ensures) (begins .ensures .yes (not-false (begins .result) (c .before .before .before .before .before .before .before .before .before .if1 .left))) in
     let whole : Splitting (a .p) (a .n) (a .w) (a .roots .now) (a .powers .now) (a .rows .now) = record { listed = r .0; splits = fits } in
-    let cl = subst (λ x. Cleared (a .n) (a .w) x (a .rows .now) s1) e (clear .ensures) in
+    let cl = subst (λ x. ColumnsSet (a .n) (a .w) (a .n) x (λ _ _. 0) (a .rows .now) s1) e (clear .ensures) in
     let sp = cleared-splitting (a .p) (a .n) (a .w) (a .roots .now) (a .powers .now) (a .rows .now) s1 whole cl in
     found-some (cleared-factors (a .p) (a .n) (a .w) (a .roots .now) (a .powers .now) (a .rows .now) s1 whole cl _
-    (factors-done (a .p) (a .n) (a .w) (a .roots .now) (a .powers .now) s1 sp _ e (spread .ensures .1) _ (cl .none) (c .before .before .factor-rows .ensures)))
+    (factors-done (a .p) (a .n) (a .w) (a .roots .now) (a .powers .now) s1 sp _ e (spread .ensures .1) _ (cl .set) (c .before .before .factor-rows .ensures)))
 
 pub find-factors-spec : {M : Type 1} → statement M
 find-factors-spec =
