@@ -71,18 +71,20 @@ static void series_input(const struct benchmark *b) {
 
 static uint32_t terms_at(enum start start) { return start == NOTHING ? 0 : start == ONE_TERM ? 1 : start == HALF ? n / 2 : n; }
 
+static uint32_t degree = D, order = ORDER; /* of the polynomial whose pair is wanted */
+
 static uint64_t pair_to(int side, enum start from, enum start to, uint32_t *rows) {
-    return (side ? base_pair : bk_pair)(p, D, n, f, (D + 1) * n, terms_at(from), terms_at(to), rows, words[side]);
+    return (side ? base_pair : bk_pair)(p, degree, n, f, words[side], terms_at(from), terms_at(to), rows, words[side]);
 }
 
 static void pair_input(const struct benchmark *b) {
-    words[0] = words[1] = (D + 1) * n;
+    words[0] = words[1] = (degree + 1) * n;
     fill(f, words[0]);
-    for (size_t j = 0; j < ORDER; j++) f[j * n] = 0;
-    f[ORDER * n] = 1 + random_word() % (p - 1);
+    for (size_t j = 0; j < order; j++) f[j * n] = 0;
+    f[order * n] = 1 + random_word() % (p - 1);
     if (b->start == NOTHING) return;
     for (int side = 0; side < 2; side++)
-        stop_unless(pair_to(side, NOTHING, b->start, fresh[side]) == ORDER, b, "the pair to continue is refused");
+        stop_unless(pair_to(side, NOTHING, b->start, fresh[side]) == order, b, "the pair to continue is refused");
 }
 
 static void draw_roots(uint32_t count) {
@@ -135,6 +137,8 @@ static uint64_t inverse(int side) {
 static uint64_t pair(int side) { return pair_to(side, NOTHING, FULL, out[side]); }
 
 static uint64_t second_half(int side) { return pair_to(side, HALF, FULL, out[side]); }
+
+static uint64_t no_further(int side) { return pair_to(side, FULL, FULL, out[side]); }
 
 static uint64_t extend(int side) {
     return (side ? base_sheet_extend : bk_sheet_extend)(out[side], words[side], n);
@@ -357,9 +361,15 @@ static void short_rows(const struct benchmark *b, const char *other) {
 static void short_table(void) {
     static const struct benchmark EVERY = {"sum of two numbers", no_input, sum_by_every_number, no_words, 0, NOTHING};
     static const struct benchmark LIBRARY = {"sum of two numbers", no_input, library_prime, no_words, 0, NOTHING};
+    static const struct benchmark PAIR = {"pair", pair_input, pair, same_words, 0, NOTHING};
+    static const struct benchmark SAME = {"pair continued N to N, which changes nothing", pair_input, no_further, same_words, 0, FULL};
     printf("\n| The shortest calls | other | p | engine, ns | other, ns | engine / other |\n|---|---|---|---|---|---|\n");
     n = SHORT_N;
     short_rows(&BENCHMARKS[0], "C, N = 8");
+    degree = 2;
+    order = 1;
+    short_rows(&PAIR, "C, D = 2, d = 1, N = 8");
+    short_rows(&SAME, "C, D = 2, d = 1, N = 8");
     short_rows(&JUDGING, "C, by the primes up to the root");
     short_rows(&EVERY, "C, by every number up to the root");
     for (int i = 0; LIBRARIES[i]; i++) {

@@ -28,6 +28,8 @@ ghost use Rattle.pair.specs.internal.Lifting.{PairGiven, PairStart, lead
 // The most words of a polynomial: 33 rows of 256.
 const MOST_WORDS: usize = 8448;
 
+const FEW_WORDS: usize = 512; // to clear the most would take longer than to work a short pair
+
 // The order of f: the first row that is not 0 at X = 0, or the number of rows.
 fn order_of(f: &[u32], n: usize, rows: usize) -> usize
     requires { ⌜ (length (now f) ≡ rows * n) × (1 ≤ n) × (n ≤ largestWidth) × (rows ≤ mostRows) ⌝ }
@@ -76,12 +78,15 @@ fn split_rows(
     split_by(p, roots, a0, n, h, w, rows);
 }
 
-// The pair to w terms, in rows that hold it to h: columns h to w − 1 of f are put there, and split.
+// The pair to w terms, in rows that hold it to h, or for h = 0 anything: columns h to w − 1 of f are put there, and split.
 fn lift(p: u32, f: &[u32], deg: usize, n: usize, d: usize, h: usize, w: usize, rows: &mut [u32])
     requires { ⌜ PairGiven p deg n (now f) d × (length (now rows) ≡ (deg + 1) * n) × (1 ≤ h → PairWords p deg n (now f) h (now rows)) × (h ≤ w) × (1 ≤ w) × (w ≤ n) ⌝ }
     ensures long { λ _. ⌜ length (now (rows .exit)) ≡ length (now (rows .entry)) ⌝ }
     ensures words { λ _. ⌜ PairWords p deg n (now (f .entry)) w (now (rows .exit)) ⌝ }
 {
+    if h == w {
+        return;
+    }
     let count = deg + 1;
     clear(n, w, count, rows);
     put_columns(f, n, h, w, count, rows);
@@ -133,6 +138,10 @@ fn is_pair(p: u32, f: &[u32], deg: usize, n: usize, d: usize, h: usize, s: &[u32
     ensures { λ r. ⌜ r ≡ pairTest p deg n (now (f .entry)) h (now (s .entry)) ⌝ }
 {
     let end = (deg + 1) * n;
+    if end <= FEW_WORDS {
+        let mut few = [0u32; FEW_WORDS];
+        return is_worked(p, f, deg, n, d, h, &s[..end], &mut few[..end]);
+    }
     let mut rows = [0u32; MOST_WORDS];
     is_worked(p, f, deg, n, d, h, &s[..end], &mut rows[..end])
 }

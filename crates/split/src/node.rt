@@ -67,7 +67,7 @@ fn join(p0: &[u32], a0: &[u32], m: usize, k: usize, e: &mut [u32])
     load_column(a0, 1, 0, &mut e[m..]);
 }
 
-// The split that begins with the product of the Y − c and a0. All but the rows are for scratch.
+// The split that begins with the product of the Y − c and a0. p0, b, row, table and e are for scratch.
 fn split_with(
     p: u32,
     c: &[u32],
@@ -95,7 +95,8 @@ fn split_with(
     split_either(p, m, k, p0, a0, table, n, h, w, e, row, rows);
 }
 
-// The split that begins with the product of the Y − c and a0: columns 1 to h − 1 of the rows are split already, and columns h to w − 1 are.
+// The split that begins with the product of the Y − c and a0. Columns 1 to h − 1 of the rows hold the two parts already; columns h to w − 1 hold the polynomial,
+// and become those of the parts.
 pub fn split_by(p: u32, c: &[u32], a0: &[u32], n: usize, h: usize, w: usize, rows: &mut [u32])
     requires { ⌜ SplitStart p (now c) (now a0) × SplitRoom p n h w (length (now c) + (length (now a0) - 1)) (now rows) ⌝ }
     ensures { λ _. ⌜ SplitBy p n h w (now (c .entry)) (now (a0 .entry)) (now (rows .entry)) (now (rows .exit)) ⌝ }

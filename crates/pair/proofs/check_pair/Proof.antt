@@ -15,31 +15,19 @@ use Rattle.pair.proofs.AnswerLaws.{past-10, past-11, past-13, past-14, 
 use borrow.Author.Needs.{needs}
 use Rattle.pair.proofs.check_pair.Statement.{statement}
 use Rattle.pair.proofs.check_pair.Tie as tie
-use Rattle.pair.proofs.check_pair.Reads as reads
-use Rattle.pair.proofs.check_pair.Lts as lts
-use Rattle.numbers.proofs.judge.check_operation.Reads as check-operation-reads
-use Rattle.numbers.proofs.judge.outside.Reads as outside-reads
-use Rattle.numbers.proofs.refusal.refuse.Reads as refuse-reads
-use Rattle.pair.proofs.held.Reads as held-reads
-use Rattle.pair.proofs.order_of.Reads as order-of-reads
 
--- src/lib.rt:155:16
 add-rows : tie.Need-add-rows
 add-rows c = search needs
 
--- src/lib.rt:156:44
 slice-aggregate-check-operation : tie.Need-slice-aggregate-check-operation
 slice-aggregate-check-operation c = search needs
 
--- src/lib.rt:156:9
 check-operation-requires : tie.Need-check-operation-requires
 check-operation-requires c κs = search needs
 
--- src/lib.rt:158:9
 enum-told : tie.Need-enum-told
 enum-told c = search needs
 
--- src/lib.rt:158:9
 returns : tie.Need-returns
 returns c =
     let a = c .before .before .before .before .before .before .args in
@@ -49,18 +37,15 @@ returns c =
 enum-told-2 : tie.Need-enum-told-2
 enum-told-2 c = search needs
 
--- src/lib.rt:160:9
 order-of-requires : tie.Need-order-of-requires
 order-of-requires c κs =
     let a = c .before .before .before .before .before .before .args in
     let o = operation-pass (a .p) (a .n) (a .f .now) (a .d + 1) [] 0 (a .d + 1) (length (a .out .now)) (sym (c .before .before .check-operation .ensures) ∙ c .enum-told2 .given .1) in
     (o .inputs .f-long, o .inputs .width-low, o .inputs .width-high, o .inputs .f-high)
 
--- src/lib.rt:162:9
 refuse-requires : tie.Need-refuse-requires
 refuse-requires c κs = search needs
 
--- src/lib.rt:162:9
 returns-2 : tie.Need-returns-2
 returns-2 c =
     let a = c .before .before .before .before .before .before .before .before .before .args in
@@ -68,18 +53,15 @@ returns-2 c =
     ∙ sym (past-10 (a .p) (a .d) (a .n) (a .f .now) (a .h) (a .w) (a .out .now) (sym (c .before .before .before .before .before .check-operation .ensures) ∙ c .before .before .before .enum-told2 .given .1)
     ∙ take-check _ _ (lt-ltb (a .d) (order (a .d) (a .n) (a .f .now)) (omega (arith, c .before .before .order-of .ensures, c .before .if1 .taken))))
 
--- src/lib.rt:164:9
 held-requires : tie.Need-held-requires
 held-requires c κs =
     let a = c .before .before .before .before .before .before .before .before .args in
     let o = operation-pass (a .p) (a .n) (a .f .now) (a .d + 1) [] 0 (a .d + 1) (length (a .out .now)) (sym (c .before .before .before .before .check-operation .ensures) ∙ c .before .before .enum-told2 .given .1) in
     (given-of o (c .before .order-of .ensures) (omega (arith, c .if1 .left)), o .roomy)
 
--- src/lib.rt:165:9
 refuse-requires-2 : tie.Need-refuse-requires-2
 refuse-requires-2 c κs = search needs
 
--- src/lib.rt:165:9
 returns-3 : tie.Need-returns-3
 returns-3 c =
     let a = c .before .before .before .before .before .before .before .before .before .before .before .args in
@@ -87,15 +69,12 @@ returns-3 c =
     ∙ sym (past-11 (a .p) (a .d) (a .n) (a .f .now) (a .h) (a .w) (a .out .now) (sym (c .before .before .before .before .before .before .before .check-operation .ensures) ∙ c .before .before .before .before .before .enum-told2 .given .1) (omega (arith, c .before .before .before .before .order-of .ensures, c .before .before .before .if1 .left))
     ∙ take-check _ _ (ap not (sym (c .before .before .held .ensures)) ∙ c .before .if2 .taken))
 
--- src/lib.rt:167:8
 outside-requires : tie.Need-outside-requires
 outside-requires c κs = search needs
 
--- src/lib.rt:168:9
 refuse-requires-3 : tie.Need-refuse-requires-3
 refuse-requires-3 c κs = search needs
 
--- src/lib.rt:168:9
 returns-4 : tie.Need-returns-4
 returns-4 c =
     let a = c .before .before .before .before .before .before .before .before .before .before .before .before .before .args in
@@ -103,11 +82,9 @@ returns-4 c =
     ∙ sym (past-13 (a .p) (a .d) (a .n) (a .f .now) (a .h) (a .w) (a .out .now) (sym (c .before .before .before .before .before .before .before .before .before .check-operation .ensures) ∙ c .before .before .before .before .before .before .before .enum-told2 .given .1) (omega (arith, c .before .before .before .before .before .before .order-of .ensures, c .before .before .before .before .before .if1 .left))
     (sym (c .before .before .before .before .held .ensures) ∙ not-false _ (c .before .before .before .if2 .left)) ∙ take-check _ _ (sym (c .before .before .outside .ensures) ∙ c .before .if3 .taken))
 
--- src/lib.rt:171:9
 refuse-requires-4 : tie.Need-refuse-requires-4
 refuse-requires-4 c κs = search needs
 
--- src/lib.rt:171:9
 returns-5 : tie.Need-returns-5
 returns-5 c =
     let a = c .before .before .before .before .before .before .before .before .before .before .before .before .before .before .args in
@@ -115,7 +92,6 @@ returns-5 c =
     ∙ sym (past-14 (a .p) (a .d) (a .n) (a .f .now) (a .h) (a .w) (a .out .now) (sym (c .before .before .before .before .before .before .before .before .before .before .check-operation .ensures) ∙ c .before .before .before .before .before .before .before .before .enum-told2 .given .1) (omega (arith, c .before .before .before .before .before .before .before .order-of .ensures, c .before .before .before .before .before .before .if1 .left))
     (sym (c .before .before .before .before .before .held .ensures) ∙ not-false _ (c .before .before .before .before .if2 .left)) (sym (c .before .before .before .outside .ensures) ∙ c .before .before .if3 .left) ∙ take-check _ _ (lt-ltb _ _ (c .before .if4 .taken)))
 
--- src/lib.rt:152:1
 returns-6 : tie.Need-returns-6
 returns-6 c =
     let a = c .before .before .before .before .before .before .before .before .before .before .before .before .before .args in

@@ -3,14 +3,10 @@
 use borrow.Author.Tests.{eq-eqb, ne-eqb}
 use Rattle.pair.proofs.first_column.Statement.{statement}
 use Rattle.pair.proofs.first_column.Tie as tie
-use Rattle.pair.proofs.first_column.Reads as reads
-use Rattle.pair.proofs.first_column.Lts as lts
 
--- src/lib.rt:181:9
 returns : tie.Need-returns
 returns c = rw (eq-eqb _ 0 (c .if1 .taken))
 
--- src/lib.rt:177:1
 returns-2 : tie.Need-returns-2
 returns-2 c = rw (ne-eqb _ 0 (c .if1 .left))
 

@@ -4,23 +4,16 @@ use Rattle.pair.proofs.TestLaws.{held-start, held-beyond, held-tested}
 use borrow.Author.Needs.{needs}
 use Rattle.pair.proofs.held.Statement.{statement}
 use Rattle.pair.proofs.held.Tie as tie
-use Rattle.pair.proofs.held.Reads as reads
-use Rattle.pair.proofs.held.Lts as lts
-use Rattle.pair.proofs.is_pair.Reads as is-pair-reads
 
--- src/lib.rt:143:9
 returns : tie.Need-returns
 returns c = let a = c .before .before .before .args in held-start (a .p) (a .deg) (a .n) (a .f .now) (a .h) (a .s .now) (c .if1 .taken)
 
--- src/lib.rt:146:9
 returns-2 : tie.Need-returns-2
 returns-2 c = let a = c .before .before .before .before .args in held-beyond (a .p) (a .deg) (a .n) (a .f .now) (a .h) (a .s .now) (c .before .if1 .left) (c .if2 .taken)
 
--- src/lib.rt:148:5
 is-pair-requires : tie.Need-is-pair-requires
 is-pair-requires c κs = search needs
 
--- src/lib.rt:138:1
 returns-3 : tie.Need-returns-3
 returns-3 c = let a = c .before .before .before .before .before .args in held-tested (a .p) (a .deg) (a .n) (a .f .now) (a .h) (a .s .now) (c .before .before .if1 .left) (c .before .if2 .left) (c .is-pair .ensures)
 

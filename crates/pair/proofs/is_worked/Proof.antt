@@ -2,29 +2,20 @@
 -- Assumes nothing.
 use mathlib.Core.Path.{sym, _∙_}
 use native.Mathlib.Omega.{arith}
-use borrow.Author.Needs.{needs}
 use Rattle.pair.proofs.AnswerLaws.{worked-decides}
 use borrow.Author.Needs.{needs}
 use Rattle.pair.proofs.is_worked.Statement.{statement}
 use Rattle.pair.proofs.is_worked.Tie as tie
-use Rattle.pair.proofs.is_worked.Reads as reads
-use Rattle.pair.proofs.is_worked.Lts as lts
-use Rattle.pair.proofs.lift.Reads as lift-reads
-use Rattle.pair.proofs.same_words.Reads as same-words-reads
 
--- src/lib.rt:126:5
 lift-requires : tie.Need-lift-requires
 lift-requires c κs = let r = c .before .before .before .before .pre in (r .0, r .2, λ one. absurd (let z : ⊥ = omega arith in z), omega arith, r .3, r .4)
 
--- src/lib.rt:127:5
 same-words-requires : tie.Need-same-words-requires
 same-words-requires c κs = let r = c .before .before .before .before .before .before .before .before .pre in r .1 ∙ sym (c .before .before .before .lift .ensures .0 ∙ r .2)
 
--- src/lib.rt:113:1
 same-length : tie.Need-same-length
 same-length c = search needs
 
--- src/lib.rt:113:1
 returns : tie.Need-returns
 returns c =
     let a = c .before .before .before .before .before .before .before .before .before .args in

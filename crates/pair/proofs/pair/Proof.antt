@@ -8,25 +8,16 @@ use Rattle.pair.proofs.AnswerLaws.{operation-of, pair-pass, given-of, l
 use borrow.Author.Needs.{needs}
 use Rattle.pair.proofs.pair.Statement.{statement}
 use Rattle.pair.proofs.pair.Tie as tie
-use Rattle.pair.proofs.pair.Reads as reads
-use Rattle.pair.proofs.pair.Lts as lts
-use Rattle.pair.proofs.check_pair.Reads as check-pair-reads
-use Rattle.pair.proofs.lift.Reads as lift-reads
-use Rattle.pair.proofs.order_of.Reads as order-of-reads
 
--- src/lib.rt:240:33
 check-pair-requires : tie.Need-check-pair-requires
 check-pair-requires c κs = search needs
 
--- src/lib.rt:240:28
 enum-known-r : tie.Need-enum-known-r
 enum-known-r c = search needs
 
--- src/lib.rt:241:9
 same-length : tie.Need-same-length
 same-length c = search needs
 
--- src/lib.rt:241:9
 returns : tie.Need-returns
 returns c =
     let r = leave-refused _ _ _ _ (sym (c .before .before .before .check-pair .ensures) ∙ c .before .r .given .1) in
@@ -35,41 +26,34 @@ returns c =
 enum-told : tie.Need-enum-told
 enum-told c = search needs
 
--- src/lib.rt:245:36
 add-order-of : tie.Need-add-order-of
 add-order-of c = search needs
 
--- src/lib.rt:245:9
 order-of-requires : tie.Need-order-of-requires
 order-of-requires c κs =
     let a = c .before .before .before .before .before .before .args in
     let i = operation-of (pair-pass (a .p) (a .d) (a .n) (a .f .now) (a .h) (a .w) (a .out .now) (sym (c .before .before .check-pair .ensures) ∙ c .enum-told .given .1)) .inputs in
     (i .f-long, i .width-low, i .width-high, i .high)
 
--- src/lib.rt:246:16
 add-end : tie.Need-add-end
 add-end c = search needs
 
--- src/lib.rt:246:15
 mul-end : tie.Need-mul-end
 mul-end c =
     let a = c .before .before .before .before .before .before .before .args in
     let i = operation-of (pair-pass (a .p) (a .d) (a .n) (a .f .now) (a .h) (a .w) (a .out .now) (sym (c .before .before .before .check-pair .ensures) ∙ c .before .enum-told .given .1)) .inputs in
     omega (arith, few-words (a .d + 1) (a .n) (i .high) (i .width-high))
 
--- src/lib.rt:247:59
 slice-relend-prefix-lift : tie.Need-slice-relend-prefix-lift
 slice-relend-prefix-lift c =
     let a = c .before .before .before .before .before .before .before .args in
     operation-of (pair-pass (a .p) (a .d) (a .n) (a .f .now) (a .h) (a .w) (a .out .now) (sym (c .before .before .before .check-pair .ensures) ∙ c .before .enum-told .given .1)) .roomy
 
--- src/lib.rt:247:59
 slice-aggregate-lift : tie.Need-slice-aggregate-lift
 slice-aggregate-lift c =
     let a = c .before .before .before .before .before .before .before .before .args in
     sym (lent-long (a .p) (a .d) (a .n) (a .f .now) (a .h) (a .w) (a .out .now) (pair-pass (a .p) (a .d) (a .n) (a .f .now) (a .h) (a .w) (a .out .now) (sym (c .before .before .before .before .check-pair .ensures) ∙ c .before .before .enum-told .given .1)))
 
--- src/lib.rt:247:5
 lift-requires : tie.Need-lift-requires
 lift-requires c κs =
     let a = c .before .before .before .before .before .before .before .before .args in
@@ -77,15 +61,12 @@ lift-requires c κs =
     let b = i .bound in
     (given-of (operation-of i) (c .before .order-of .ensures) (omega (arith, c .before .order-of .ensures)), lent-long (a .p) (a .d) (a .n) (a .f .now) (a .h) (a .w) (a .out .now) i, lent-held (a .p) (a .d) (a .n) (a .f .now) (a .h) (a .w) (a .out .now) i, i .upto, i .low, i .high)
 
--- src/lib.rt:248:18
 cast-t21 : tie.Need-cast-t21
 cast-t21 c = search needs
 
--- src/lib.rt:237:1
 same-length-2 : tie.Need-same-length-2
 same-length-2 c = search needs
 
--- src/lib.rt:237:1
 returns-2 : tie.Need-returns-2
 returns-2 c =
     let a = c .before .before .before .before .before .before .before .before .before .before .before .args in

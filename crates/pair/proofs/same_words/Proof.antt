@@ -10,8 +10,6 @@ use Rattle.numbers.specs.Words.{word}
 use Rattle.numbers.proofs.TestsLaws.{decides-yes, decides-no}
 use Rattle.pair.proofs.same_words.Statement.{statement}
 use Rattle.pair.proofs.same_words.Tie as tie
-use Rattle.pair.proofs.same_words.Reads as reads
-use Rattle.pair.proofs.same_words.Lts as lts
 
 abbrev Inv-loop : tie.InvT-loop
 Inv-loop a b i₀ i = (i ≤ length a) × ((l : ℕ) → l < i → word a l ≡ word b l)
@@ -19,43 +17,33 @@ Inv-loop a b i₀ i = (i ≤ length a) × ((l : ℕ) → l < i → word a l ≡ 
 abbrev μ-loop : tie.MeasureT-loop
 μ-loop a b i₀ i = length a - i
 
--- src/lib.rt:103:5
 loop-holds : tie.Need-loop-holds Inv-loop μ-loop
 loop-holds c = (omega arith, λ k l. absurd (let z : ⊥ = omega arith in z))
 
--- src/lib.rt:104:12
 mul-if1 : tie.Need-mul-if1 Inv-loop μ-loop
 mul-if1 c = search needs
 
--- src/lib.rt:104:12
 shared-slice-read-if1 : tie.Need-shared-slice-read-if1 Inv-loop μ-loop
 shared-slice-read-if1 c = search needs
 
--- src/lib.rt:104:20
 mul-if1-2 : tie.Need-mul-if1-2 Inv-loop μ-loop
 mul-if1-2 c = search needs
 
--- src/lib.rt:104:20
 shared-slice-read-if1-2 : tie.Need-shared-slice-read-if1-2 Inv-loop μ-loop
 shared-slice-read-if1-2 c = search needs
 
--- src/lib.rt:105:13
 returns : tie.Need-returns Inv-loop μ-loop
 returns c = decides-no (λ h. c .if1 .taken (h (c .before .before .before .before .loop .i) (omega arith)))
 
--- src/lib.rt:107:9
 add-i : tie.Need-add-i Inv-loop μ-loop
 add-i c = search needs
 
--- src/lib.rt:103:5
 loop-less : tie.Need-loop-less Inv-loop μ-loop
 loop-less c = search needs
 
--- src/lib.rt:103:5
 loop-again : tie.Need-loop-again Inv-loop μ-loop
 loop-again c = let a = c .before .before .before .before .before .args in (omega arith, below-more (λ l. word (a .a .now) l ≡ word (a .b .now) l) _ (c .before .before .before .before .loop .inv .1) (c .if1 .left))
 
--- src/lib.rt:98:1
 returns-2 : tie.Need-returns-2 Inv-loop μ-loop
 returns-2 c = decides-yes (λ i l. c .before .loop .inv .1 i (omega arith))
 

@@ -12,44 +12,31 @@ use Rattle.pair.proofs.LiftLaws.{leading-long, leading-made, lift-start
 use borrow.Author.Needs.{needs}
 use Rattle.pair.proofs.split_rows.Statement.{statement}
 use Rattle.pair.proofs.split_rows.Tie as tie
-use Rattle.pair.proofs.split_rows.Reads as reads
-use Rattle.pair.proofs.split_rows.Lts as lts
-use Rattle.columns.proofs.load_column.Reads as load-column-reads
-use Rattle.split.proofs.node.split_by.Reads as split-by-reads
 
--- src/lib.rt:202:13
 sub-k : tie.Need-sub-k
 sub-k c = search needs
 
--- src/lib.rt:203:16
 mul-seam : tie.Need-mul-seam
 mul-seam c = search needs
 
--- src/lib.rt:204:17
 mul-load-column : tie.Need-mul-load-column
 mul-load-column c = search needs
 
--- src/lib.rt:204:17
 sub-load-column : tie.Need-sub-load-column
 sub-load-column c = search needs
 
--- src/lib.rt:204:17
 part-load-column-start : tie.Need-part-load-column-start
 part-load-column-start c = search needs
 
--- src/lib.rt:204:17
 part-load-column-end : tie.Need-part-load-column-end
 part-load-column-end c = search needs
 
--- src/lib.rt:204:38
 slice-relend-prefix-load-column : tie.Need-slice-relend-prefix-load-column
 slice-relend-prefix-load-column c = search needs
 
--- src/lib.rt:204:38
 slice-aggregate-load-column : tie.Need-slice-aggregate-load-column
 slice-aggregate-load-column c = let a = c .before .before .before .before .before .before .args in sym (length-take-le (length (a .a0 .now) - 1) (a .a0 .now) (omega arith))
 
--- src/lib.rt:204:5
 load-column-requires : tie.Need-load-column-requires
 load-column-requires c κs =
     let a = c .before .before .before .before .before .before .args in
@@ -60,15 +47,12 @@ load-column-requires c κs =
     let long = r .1 .long in
     (r .1 .width, omega (arith, r .1 .from-low, r .1 .from-high, r .1 .terms-high), omega (arith, n, r .0 .room, r .0 .low, r .0 .high), omega (arith, e, long, add-mul (a .d) k (a .n), length-from (a .rows .now) (a .d * a .n)))
 
--- src/lib.rt:205:5
 mul-a0 : tie.Need-mul-a0
 mul-a0 c = search needs
 
--- src/lib.rt:205:5
 slice-write-a0 : tie.Need-slice-write-a0
 slice-write-a0 c = search needs
 
--- src/lib.rt:206:5
 split-by-requires : tie.Need-split-by-requires
 split-by-requires c κs =
     let a = c .before .before .before .before .before .before .before .before .before .before .before .args in
@@ -82,15 +66,12 @@ split-by-requires c κs =
           (omega (arith, r .0 .roots-long, ap length made, leading-long (a .d) (a .n) k (a .rows .now))) (r .1),
     )
 
--- src/lib.rt:188:1
 same-length : tie.Need-same-length
 same-length c = search needs
 
--- src/lib.rt:188:1
 same-length-2 : tie.Need-same-length-2
 same-length-2 c = search needs
 
--- src/lib.rt:188:1
 returns : tie.Need-returns
 returns c =
     let a = c .before .before .before .before .before .before .before .before .before .before .before .before .before .before .args in

@@ -5,17 +5,10 @@ use Rattle.solution.proofs.NodeLaws.{bases, node-first}
 use borrow.Author.Needs.{needs}
 use Rattle.solution.proofs.prepare_split.Statement.{statement}
 use Rattle.solution.proofs.prepare_split.Tie as tie
-use Rattle.solution.proofs.prepare_split.Reads as reads
-use Rattle.solution.proofs.prepare_split.Lts as lts
-use Rattle.solution.proofs.fill_table.Reads as fill-table-reads
-use Rattle.solution.proofs.first_solution.Reads as first-solution-reads
-use Rattle.solution.proofs.product_of.Reads as product-of-reads
 
--- src/lib.rt:151:5
 product-of-requires : tie.Need-product-of-requires
 product-of-requires c κs = search needs
 
--- src/lib.rt:152:5
 first-solution-requires : tie.Need-first-solution-requires
 first-solution-requires c κs =
     let h = c .before .before .before .before .before .before .before .before .before .before .before .before .pre .0 in
@@ -24,11 +17,9 @@ first-solution-requires c κs =
     let room = h .room in
     (h .prime, h .small, low, high, omega arith, omega arith, c .before .before .before .before .before .before .before .before .before .before .before .before .pre .2, h .c-below, h .A-below, h .values)
 
--- src/lib.rt:153:28
 sub-fill-table : tie.Need-sub-fill-table
 sub-fill-table c = search needs
 
--- src/lib.rt:153:5
 fill-table-requires : tie.Need-fill-table-requires
 fill-table-requires c κs =
     let h = c .before .before .before .before .before .before .before .before .before .before .before .before .before .before .before .before .before .before .before .before .pre .0 in
@@ -36,23 +27,18 @@ fill-table-requires c κs =
     let f = node-first (h .prime) (a .c .now) (a .a0 .now) h _ (c .before .before .before .before .before .before .before .before .before .before .before .before .product-of .ensures) _ (c .before .before .before .before .before .before .before .first-solution .ensures .1) in
     (bases (h .prime) (a .c .now) (a .a0 .now) h _ (c .before .before .before .before .before .before .before .before .before .before .before .before .product-of .ensures), f .0, f .1, c .before .before .before .before .before .before .before .before .before .before .before .before .before .before .before .before .before .before .before .before .pre .4, f .2)
 
--- src/lib.rt:135:1
 same-length : tie.Need-same-length
 same-length c = search needs
 
--- src/lib.rt:135:1
 same-length-2 : tie.Need-same-length-2
 same-length-2 c = search needs
 
--- src/lib.rt:135:1
 same-length-3 : tie.Need-same-length-3
 same-length-3 c = search needs
 
--- src/lib.rt:135:1
 same-length-4 : tie.Need-same-length-4
 same-length-4 c = search needs
 
--- src/lib.rt:135:1
 returns : tie.Need-returns
 returns c = (c .before .before .before .before .before .before .before .before .before .before .before .before .before .before .before .before .before .product-of .ensures, (search needs, (search needs, c .before .before .before .before .fill-table .ensures)))
 

@@ -10,10 +10,6 @@ use Rattle.tiled.specs.internal.Tiled.{Beside}
 use Rattle.tiled.proofs.TiledLaws.{loaded-stored, loaded-below, made-long, beside-long}
 use Rattle.tiled.proofs.load_tiles.Statement.{statement}
 use Rattle.tiled.proofs.load_tiles.Tie as tie
-use Rattle.tiled.proofs.load_tiles.Reads as reads
-use Rattle.tiled.proofs.load_tiles.Lts as lts
-use Rattle.columns.proofs.load_column.Reads as load-column-reads
-use Rattle.tiled.proofs.put_tiles.Reads as put-tiles-reads
 
 abbrev Inv-loop : tie.InvT-loop
 Inv-loop m k paired n h blocks rows column₀ pairs₀ tiles₀ t₀ column pairs tiles t = (1 ≤ t) × (t ≤ h) × (length column ≡ m + k) × Beside n m k paired blocks t rows pairs tiles
@@ -21,11 +17,9 @@ Inv-loop m k paired n h blocks rows column₀ pairs₀ tiles₀ t₀ column pair
 abbrev μ-loop : tie.MeasureT-loop
 μ-loop m k paired n h blocks rows column₀ pairs₀ tiles₀ t₀ column pairs tiles t = h - t
 
--- src/lib.rt:280:5
 loop-holds : tie.Need-loop-holds Inv-loop μ-loop
 loop-holds c = (omega arith, c .before .before .before .before .pre .5, c .before .before .before .before .pre .9, c .before .before .before .before .pre .10)
 
--- src/lib.rt:281:9
 load-column-requires : tie.Need-load-column-requires Inv-loop μ-loop
 load-column-requires c κs =
     let r = c .before .before .before .before .before .before .before .pre in
@@ -33,7 +27,6 @@ load-column-requires c κs =
     let e : length (c .before .before .loop .column) * c .before .before .before .before .before .before .before .args .n ≡ (c .before .before .before .before .before .before .before .args .m + c .before .before .before .before .before .before .before .args .k) * c .before .before .before .before .before .before .before .args .n = ap (λ x. x * c .before .before .before .before .before .before .before .args .n) (l .2) in
     (r .4, omega (arith, r .6), omega (arith, l .2, r .0), omega (arith, e, r .7))
 
--- src/lib.rt:282:9
 put-tiles-requires : tie.Need-put-tiles-requires Inv-loop μ-loop
 put-tiles-requires c κs =
     let r = c .before .before .before .before .before .before .before .before .before .before .before .before .before .pre in
@@ -43,15 +36,12 @@ put-tiles-requires c κs =
     let long = beside-long (a .n) (a .m) (a .k) (a .paired) (a .blocks) (c .before .before .before .before .before .before .before .before .loop .t) (a .rows .now) (c .before .before .before .before .before .before .before .before .loop .pairs) (c .before .before .before .before .before .before .before .before .loop .tiles) (l .3) in
     (r .0, r .1, r .2, r .3, r .4, omega (arith, r .6), made-long _ _ _ w ∙ l .2, loaded-below (a .n) (c .before .before .before .before .before .before .before .before .loop .t) _ (a .rows .now) _ w modulusBound (omega (arith, r .6)) (r .7 ∙ ap (λ x. x * a .n) (sym (l .2))) (r .8), long .0, long .1)
 
--- src/lib.rt:283:9
 add-t : tie.Need-add-t Inv-loop μ-loop
 add-t c = search needs
 
--- src/lib.rt:280:5
 loop-less : tie.Need-loop-less Inv-loop μ-loop
 loop-less c = search needs
 
--- src/lib.rt:280:5
 loop-again : tie.Need-loop-again Inv-loop μ-loop
 loop-again c =
     let a = c .before .before .before .before .before .before .before .before .before .before .before .before .before .before .before .before .before .before .args in
@@ -59,19 +49,15 @@ loop-again c =
     let w = c .before .before .before .before .before .before .before .before .before .before .load-column .ensures in
     (omega arith, omega arith, made-long _ _ _ w ∙ l .2, c .before .before .before .before .put-tiles .ensures (a .rows .now) (a .rows .now) (l .3) (loaded-stored (a .n) (c .before .before .before .before .before .before .before .before .before .before .before .before .before .loop .t) _ (a .rows .now) _ w))
 
--- src/lib.rt:262:1
 same-length : tie.Need-same-length Inv-loop μ-loop
 same-length c = c .before .loop .inv .2 ∙ sym (c .before .before .before .before .before .before .pre .9)
 
--- src/lib.rt:262:1
 same-length-2 : tie.Need-same-length-2 Inv-loop μ-loop
 same-length-2 c = let a = c .before .before .before .before .before .before .args in beside-long (a .n) (a .m) (a .k) (a .paired) (a .blocks) (c .before .loop .t) (a .rows .now) (c .before .loop .pairs) (c .before .loop .tiles) (c .before .loop .inv .3) .0 ∙ sym (beside-long (a .n) (a .m) (a .k) (a .paired) (a .blocks) 1 (a .rows .now) (a .pairs .now) (a .tiles .now) (c .before .before .before .before .before .before .pre .10) .0)
 
--- src/lib.rt:262:1
 same-length-3 : tie.Need-same-length-3 Inv-loop μ-loop
 same-length-3 c = let a = c .before .before .before .before .before .before .args in beside-long (a .n) (a .m) (a .k) (a .paired) (a .blocks) (c .before .loop .t) (a .rows .now) (c .before .loop .pairs) (c .before .loop .tiles) (c .before .loop .inv .3) .1 ∙ sym (beside-long (a .n) (a .m) (a .k) (a .paired) (a .blocks) 1 (a .rows .now) (a .pairs .now) (a .tiles .now) (c .before .before .before .before .before .before .pre .10) .1)
 
--- src/lib.rt:262:1
 returns : tie.Need-returns Inv-loop μ-loop
 returns c =
     let a = c .before .before .before .before .before .before .args in

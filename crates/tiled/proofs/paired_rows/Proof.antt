@@ -9,30 +9,22 @@ use Rattle.tiled.proofs.TiledLaws.{tiles-few}
 use borrow.Author.Needs.{needs}
 use Rattle.tiled.proofs.paired_rows.Statement.{statement}
 use Rattle.tiled.proofs.paired_rows.Tie as tie
-use Rattle.tiled.proofs.paired_rows.Reads as reads
-use Rattle.tiled.proofs.paired_rows.Lts as lts
 
--- src/lib.rt:343:14
 add-if1 : tie.Need-add-if1
 add-if1 c = search needs
 
--- src/lib.rt:343:8
 mul-if1 : tie.Need-mul-if1
 mul-if1 c = let a = c .args in let z : a .m * ((a .k + 7) / 8) ≤ 33 * 5 = mul-le-mul {n₂ = 33} {m₂ = 5} (omega (arith, c .pre)) (tiles-few (a .k) 5 (omega (arith, c .pre))) in omega arith
 
--- src/lib.rt:343:35
 add-if1-2 : tie.Need-add-if1-2
 add-if1-2 c = search needs
 
--- src/lib.rt:343:29
 mul-if1-2 : tie.Need-mul-if1-2
 mul-if1-2 c = let a = c .args in let z : a .k * ((a .m + 7) / 8) ≤ 33 * 5 = mul-le-mul {n₂ = 33} {m₂ = 5} (omega (arith, c .pre)) (tiles-few (a .m) 5 (omega (arith, c .pre))) in omega arith
 
--- src/lib.rt:344:9
 returns : tie.Need-returns
 returns c = inl refl
 
--- src/lib.rt:339:1
 returns-2 : tie.Need-returns-2
 returns-2 c = inr refl
 

@@ -13,31 +13,22 @@ use Rattle.tiled.proofs.TiledLaws.{beside-low, beside-high}
 use borrow.Author.Needs.{needs}
 use Rattle.tiled.proofs.put_tiles.Statement.{statement}
 use Rattle.tiled.proofs.put_tiles.Tie as tie
-use Rattle.tiled.proofs.put_tiles.Reads as reads
-use Rattle.tiled.proofs.put_tiles.Lts as lts
-use Rattle.tiled.proofs.put_sides.Reads as put-sides-reads
 
--- src/lib.rt:151:19
 slice-aggregate-put-sides : tie.Need-slice-aggregate-put-sides
 slice-aggregate-put-sides c = let a = c .before .before .before .before .before .args in sym (length-take-le (a .m) (a .column .now) (omega arith))
 
--- src/lib.rt:151:33
 mul-put-sides : tie.Need-mul-put-sides
 mul-put-sides c = search needs
 
--- src/lib.rt:151:33
 sub-put-sides : tie.Need-sub-put-sides
 sub-put-sides c = search needs
 
--- src/lib.rt:151:33
 part-put-sides-start : tie.Need-part-put-sides-start
 part-put-sides-start c = search needs
 
--- src/lib.rt:151:33
 part-put-sides-end : tie.Need-part-put-sides-end
 part-put-sides-end c = search needs
 
--- src/lib.rt:151:9
 put-sides-requires : tie.Need-put-sides-requires
 put-sides-requires c κs =
     let a = c .before .before .before .before .before .before .before .before .args in
@@ -56,27 +47,21 @@ put-sides-requires c κs =
       r .9,
     )
 
--- src/lib.rt:153:19
 mul-put-sides-2 : tie.Need-mul-put-sides-2
 mul-put-sides-2 c = search needs
 
--- src/lib.rt:153:19
 sub-put-sides-2 : tie.Need-sub-put-sides-2
 sub-put-sides-2 c = search needs
 
--- src/lib.rt:153:19
 part-put-sides-start-2 : tie.Need-part-put-sides-start-2
 part-put-sides-start-2 c = search needs
 
--- src/lib.rt:153:19
 part-put-sides-end-2 : tie.Need-part-put-sides-end-2
 part-put-sides-end-2 c = search needs
 
--- src/lib.rt:153:33
 slice-aggregate-put-sides-2 : tie.Need-slice-aggregate-put-sides-2
 slice-aggregate-put-sides-2 c = let a = c .before .before .before .before .before .before .args in sym (length-take-le (a .m) (a .column .now) (omega arith))
 
--- src/lib.rt:153:9
 put-sides-requires-2 : tie.Need-put-sides-requires-2
 put-sides-requires-2 c κs =
     let a = c .before .before .before .before .before .before .before .before .args in
@@ -95,27 +80,21 @@ put-sides-requires-2 c κs =
       r .9,
     )
 
--- src/lib.rt:134:1
 same-length : tie.Need-same-length
 same-length c = search needs
 
--- src/lib.rt:134:1
 same-length-2 : tie.Need-same-length-2
 same-length-2 c = search needs
 
--- src/lib.rt:134:1
 returns : tie.Need-returns
 returns c = let a = c .before .before .before .before .before .before .before .before .before .before .before .before .before .args in let r = c .before .before .before .before .before .before .before .before .before .before .before .before .before .pre in beside-low (a .n) (a .m) (a .k) (a .paired) (a .blocks) (a .t) (a .column .now) (a .pairs .now) (a .tiles .now) _ _ (r .5) (r .6) (c .before .before .before .before .before .before .before .before .before .if1 .taken) (c .before .before .before .before .put-sides .ensures)
 
--- src/lib.rt:134:1
 same-length-3 : tie.Need-same-length-3
 same-length-3 c = search needs
 
--- src/lib.rt:134:1
 same-length-4 : tie.Need-same-length-4
 same-length-4 c = search needs
 
--- src/lib.rt:134:1
 returns-2 : tie.Need-returns-2
 returns-2 c = let a = c .before .before .before .before .before .before .before .before .before .before .before .before .before .args in let r = c .before .before .before .before .before .before .before .before .before .before .before .before .before .pre in beside-high (a .n) (a .m) (a .k) (a .paired) (a .blocks) (a .t) (a .column .now) (a .pairs .now) (a .tiles .now) _ _ (r .5) (r .6) (c .before .before .before .before .before .before .before .before .before .if1 .left) (c .before .before .before .before .put-sides2 .ensures)
 

@@ -8,40 +8,28 @@ use Rattle.tiled.proofs.TiledLaws.{cells-fit, pairs-fit, tiles-fit, len
 use borrow.Author.Needs.{needs}
 use Rattle.tiled.proofs.split_tiled.Statement.{statement}
 use Rattle.tiled.proofs.split_tiled.Tie as tie
-use Rattle.tiled.proofs.split_tiled.Reads as reads
-use Rattle.tiled.proofs.split_tiled.Lts as lts
-use Rattle.tiled.proofs.paired_rows.Reads as paired-rows-reads
-use Rattle.tiled.proofs.tiled_columns.Reads as tiled-columns-reads
 
--- src/lib.rt:367:16
 add-size : tie.Need-add-size
 add-size c = search needs
 
--- src/lib.rt:368:9
 paired-rows-requires : tie.Need-paired-rows-requires
 paired-rows-requires c κs = search needs
 
--- src/lib.rt:369:19
 sub-blocks : tie.Need-sub-blocks
 sub-blocks c = let a = c .before .before .before .before .before .before .before .args in ⊎-elim (λ (e : c .paired-rows .result ≡ a .m). omega arith) (λ (e : c .paired-rows .result ≡ a .k). omega arith) (c .paired-rows .ensures)
 
--- src/lib.rt:369:19
 add-blocks : tie.Need-add-blocks
 add-blocks c = search needs
 
--- src/lib.rt:370:17
 add-high : tie.Need-add-high
 add-high c = search needs
 
--- src/lib.rt:371:35
 add-cell-count : tie.Need-add-cell-count
 add-cell-count c = search needs
 
--- src/lib.rt:371:30
 mul-cell-count : tie.Need-mul-cell-count
 mul-cell-count c = search needs
 
--- src/lib.rt:371:22
 mul-cell-count-2 : tie.Need-mul-cell-count-2
 mul-cell-count-2 c =
     let a = c .before .before .before .before .before .before .before .args in
@@ -49,11 +37,9 @@ mul-cell-count-2 c =
     let z = cells-fit (a .n) (a .m) (a .k) (c .paired-rows .result) (r .0 .lent .width) (r .3) (r .4) (r .0 .bases .room) (c .paired-rows .ensures) in
     omega arith
 
--- src/lib.rt:372:32
 mul-pair-count : tie.Need-mul-pair-count
 mul-pair-count c = search needs
 
--- src/lib.rt:372:22
 mul-pair-count-2 : tie.Need-mul-pair-count-2
 mul-pair-count-2 c =
     let a = c .before .before .before .before .before .before .before .args in
@@ -61,11 +47,9 @@ mul-pair-count-2 c =
     let z = pairs-fit (a .n) (a .m) (a .k) (c .paired-rows .result) (r .0 .lent .width) (r .3) (r .4) (r .0 .bases .room) (c .paired-rows .ensures) in
     omega arith
 
--- src/lib.rt:373:32
 mul-tile-count : tie.Need-mul-tile-count
 mul-tile-count c = search needs
 
--- src/lib.rt:373:22
 mul-tile-count-2 : tie.Need-mul-tile-count-2
 mul-tile-count-2 c =
     let a = c .before .before .before .before .before .before .before .args in
@@ -73,31 +57,24 @@ mul-tile-count-2 c =
     let z = tiles-fit (a .n) (a .m) (a .k) (c .paired-rows .result) (r .0 .lent .width) (r .3) (r .4) (r .0 .bases .room) (c .paired-rows .ensures) in
     omega arith
 
--- src/lib.rt:390:9
 array-borrow-prefix-cells : tie.Need-array-borrow-prefix-cells
 array-borrow-prefix-cells c = let a = c .before .before .before .before .before .before .before .args in let r = c .before .before .before .before .before .before .before .pre in cells-fit (a .n) (a .m) (a .k) (c .paired-rows .result) (r .0 .lent .width) (r .3) (r .4) (r .0 .bases .room) (c .paired-rows .ensures)
 
--- src/lib.rt:390:9
 slice-aggregate-tiled-columns : tie.Need-slice-aggregate-tiled-columns
 slice-aggregate-tiled-columns c = let a = c .before .before .before .before .before .before .before .before .args in let r = c .before .before .before .before .before .before .before .before .pre in sym (lent-long 1360 _ (cells-fit (a .n) (a .m) (a .k) (c .before .paired-rows .result) (r .0 .lent .width) (r .3) (r .4) (r .0 .bases .room) (c .before .paired-rows .ensures)))
 
--- src/lib.rt:391:9
 array-borrow-prefix-pairs : tie.Need-array-borrow-prefix-pairs
 array-borrow-prefix-pairs c = let a = c .before .before .before .before .before .before .before .before .args in let r = c .before .before .before .before .before .before .before .before .pre in pairs-fit (a .n) (a .m) (a .k) (c .before .paired-rows .result) (r .0 .lent .width) (r .3) (r .4) (r .0 .bases .room) (c .before .paired-rows .ensures)
 
--- src/lib.rt:391:9
 slice-aggregate-tiled-columns-2 : tie.Need-slice-aggregate-tiled-columns-2
 slice-aggregate-tiled-columns-2 c = let a = c .before .before .before .before .before .before .before .before .before .args in let r = c .before .before .before .before .before .before .before .before .before .pre in sym (lent-long 15872 _ (pairs-fit (a .n) (a .m) (a .k) (c .before .before .paired-rows .result) (r .0 .lent .width) (r .3) (r .4) (r .0 .bases .room) (c .before .before .paired-rows .ensures)))
 
--- src/lib.rt:392:9
 array-borrow-prefix-tiles : tie.Need-array-borrow-prefix-tiles
 array-borrow-prefix-tiles c = let a = c .before .before .before .before .before .before .before .before .before .args in let r = c .before .before .before .before .before .before .before .before .before .pre in tiles-fit (a .n) (a .m) (a .k) (c .before .before .paired-rows .result) (r .0 .lent .width) (r .3) (r .4) (r .0 .bases .room) (c .before .before .paired-rows .ensures)
 
--- src/lib.rt:392:9
 slice-aggregate-tiled-columns-3 : tie.Need-slice-aggregate-tiled-columns-3
 slice-aggregate-tiled-columns-3 c = let a = c .before .before .before .before .before .before .before .before .before .before .args in let r = c .before .before .before .before .before .before .before .before .before .before .pre in sym (lent-long 8192 _ (tiles-fit (a .n) (a .m) (a .k) (c .before .before .before .paired-rows .result) (r .0 .lent .width) (r .3) (r .4) (r .0 .bases .room) (c .before .before .before .paired-rows .ensures)))
 
--- src/lib.rt:377:5
 tiled-columns-requires : tie.Need-tiled-columns-requires
 tiled-columns-requires c κs =
     let a = c .before .before .before .before .before .before .before .before .before .before .before .before .before .args in
@@ -113,19 +90,15 @@ tiled-columns-requires c κs =
       room-made (a .n) (a .m) (a .k) x w (r .3) (r .4) (b .room) side 1360 15872 8192 (cells-fit (a .n) (a .m) (a .k) x w (r .3) (r .4) (b .room) side) (pairs-fit (a .n) (a .m) (a .k) x w (r .3) (r .4) (b .room) side) (tiles-fit (a .n) (a .m) (a .k) x w (r .3) (r .4) (b .room) side),
     )
 
--- src/lib.rt:350:1
 same-length : tie.Need-same-length
 same-length c = search needs
 
--- src/lib.rt:350:1
 same-length-2 : tie.Need-same-length-2
 same-length-2 c = search needs
 
--- src/lib.rt:350:1
 same-length-3 : tie.Need-same-length-3
 same-length-3 c = search needs
 
--- src/lib.rt:350:1
 returns : tie.Need-returns
 returns c = search needs
 

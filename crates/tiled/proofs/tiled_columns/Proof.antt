@@ -12,11 +12,6 @@ use Rattle.tiled.specs.internal.Tiled.{Beside}
 use Rattle.tiled.proofs.TiledLaws.{below-more, tiled-none, beside-long}
 use Rattle.tiled.proofs.tiled_columns.Statement.{statement}
 use Rattle.tiled.proofs.tiled_columns.Tie as tie
-use Rattle.tiled.proofs.tiled_columns.Reads as reads
-use Rattle.tiled.proofs.tiled_columns.Lts as lts
-use Rattle.tiled.proofs.load_tiles.Reads as load-tiles-reads
-use Rattle.tiled.proofs.tiled_column.Reads as tiled-column-reads
-use Rattle.tiles.proofs.weights.load_table.Reads as load-table-reads
 
 abbrev Inv-loop : tie.InvT-loop
 Inv-loop p m k paired p0 a0 n h w blocks high table cells pairs₀ tiles₀ rows₀ e₀ column₀ t₀ pairs tiles rows e column t = (h ≤ t) × (t ≤ w) × (length e ≡ m + k) × (length column ≡ m + k) × Beside n m k paired blocks t rows pairs tiles × SplitTo p n m k p0 a0 h t rows₀ rows
@@ -24,11 +19,9 @@ Inv-loop p m k paired p0 a0 n h w blocks high table cells pairs₀ tiles₀ rows
 abbrev μ-loop : tie.MeasureT-loop
 μ-loop p m k paired p0 a0 n h w blocks high table cells pairs₀ tiles₀ rows₀ e₀ column₀ t₀ pairs tiles rows e column t = w - t
 
--- src/lib.rt:313:23
 add-load-table : tie.Need-add-load-table Inv-loop μ-loop
 add-load-table c = let z = c .before .before .before .before .before .before .before .before .before .pre .1 .room in omega arith
 
--- src/lib.rt:313:5
 load-table-requires : tie.Need-load-table-requires Inv-loop μ-loop
 load-table-requires c κs =
     let a = c .before .before .before .before .before .before .before .before .before .before .args in
@@ -36,7 +29,6 @@ load-table-requires c κs =
     let s = r .1 in
     (let z = s .m-low in omega arith, s .room, s .high-lanes, s .high-few, r .0 .table-long, r .4 .cells-long, below-more (a .p) modulusBound (a .table .now) (let z = s .small in omega arith) (r .0 .table-below), r .4 .cells-below)
 
--- src/lib.rt:314:5
 load-tiles-requires : tie.Need-load-tiles-requires Inv-loop μ-loop
 load-tiles-requires c κs =
     let a = c .before .before .before .before .before .before .before .before .before .before .before .before .before .before .before .before .before .args in
@@ -56,7 +48,6 @@ load-tiles-requires c κs =
       tiled-none (a .n) (a .m) (a .k) (a .paired) (a .blocks) (a .high) (a .rows .now) (a .cells .now) (a .pairs .now) (a .tiles .now) (s .either) (r .4),
     )
 
--- src/lib.rt:316:5
 loop-holds : tie.Need-loop-holds Inv-loop μ-loop
 loop-holds c =
     let a = c .before .before .before .before .before .before .before .before .before .before .before .before .before .before .before .before .before .before .before .before .before .before .before .before .args in
@@ -64,14 +55,12 @@ loop-holds c =
     let w = c .before .before .before .before .before .before .load-tiles .ensures in
     (omega arith, r .0 .lent .from-high, r .2, w .0, w .1, split-none (a .p) (a .n) (a .m) (a .k) (a .p0 .now) (a .a0 .now) (a .h) (a .rows .now) (r .0 .lent .below) (r .0 .first-low) (r .0 .first-high))
 
--- src/lib.rt:317:9
 tiled-column-requires : tie.Need-tiled-column-requires Inv-loop μ-loop
 tiled-column-requires c κs =
     let r = c .before .before .before .before .before .before .before .before .before .before .before .before .before .before .before .before .before .before .before .before .before .before .before .before .before .before .before .before .before .before .before .before .pre in
     let l = c .before .before .before .before .before .before .before .loop in
     (r .1, omega (arith, r .0 .lent .from-low, l .inv .0), omega arith, c .before .before .before .before .before .before .before .before .before .before .before .before .before .before .before .before .before .before .before .before .before .load-table .ensures, l .inv .5 .long ∙ r .0 .lent .long, l .inv .2, l .inv .3, l .inv .4, l .inv .5 .below)
 
--- src/lib.rt:334:9
 add-t : tie.Need-add-t Inv-loop μ-loop
 add-t c =
     let r = c .before .before .before .before .before .before .before .before .before .before .before .before .before .before .before .before .before .before .before .before .before .before .before .before .before .before .before .before .before .before .before .before .before .before .before .before .before .before .before .before .before .before .before .pre in
@@ -80,11 +69,9 @@ add-t c =
     let n = r .1 .width in
     omega arith
 
--- src/lib.rt:316:5
 loop-less : tie.Need-loop-less Inv-loop μ-loop
 loop-less c = search needs
 
--- src/lib.rt:316:5
 loop-again : tie.Need-loop-again Inv-loop μ-loop
 loop-again c =
     let a = c .before .before .before .before .before .before .before .before .before .before .before .before .before .before .before .before .before .before .before .before .before .before .before .before .before .before .before .before .before .before .before .before .before .before .before .before .before .before .before .before .before .before .before .args in
@@ -95,31 +82,24 @@ loop-again c =
     let x = split-step (a .p) (a .n) (a .m) (a .k) (a .p0 .now) (a .a0 .now) (a .table .now) (r .0 .bases) (r .0 .table-is) (l .t) (omega (arith, r .0 .lent .from-low, l .inv .0)) (omega arith) (l .rows) _ (w .1 .1 .1) (a .h) (l .inv .0) (a .rows .now) (l .inv .5) (l .inv .5 .long ∙ r .0 .lent .long) in
     (omega arith, omega arith, w .0, w .1 .0, w .1 .1 .0, x)
 
--- src/lib.rt:288:1
 same-length : tie.Need-same-length Inv-loop μ-loop
 same-length c = c .before .before .before .before .before .before .before .before .before .before .before .before .before .before .before .load-table .ensures .long ∙ sym (c .before .before .before .before .before .before .before .before .before .before .before .before .before .before .before .before .before .before .before .before .before .before .before .before .before .before .pre .4 .cells-long)
 
--- src/lib.rt:288:1
 same-length-2 : tie.Need-same-length-2 Inv-loop μ-loop
 same-length-2 c = let a = c .before .before .before .before .before .before .before .before .before .before .before .before .before .before .before .before .before .before .before .before .before .before .before .before .before .before .args in beside-long (a .n) (a .m) (a .k) (a .paired) (a .blocks) (c .before .loop .t) (c .before .loop .rows) (c .before .loop .pairs) (c .before .loop .tiles) (c .before .loop .inv .4) .0 ∙ sym (c .before .before .before .before .before .before .before .before .before .before .before .before .before .before .before .before .before .before .before .before .before .before .before .before .before .before .pre .4 .pairs-long)
 
--- src/lib.rt:288:1
 same-length-3 : tie.Need-same-length-3 Inv-loop μ-loop
 same-length-3 c = let a = c .before .before .before .before .before .before .before .before .before .before .before .before .before .before .before .before .before .before .before .before .before .before .before .before .before .before .args in beside-long (a .n) (a .m) (a .k) (a .paired) (a .blocks) (c .before .loop .t) (c .before .loop .rows) (c .before .loop .pairs) (c .before .loop .tiles) (c .before .loop .inv .4) .1 ∙ sym (c .before .before .before .before .before .before .before .before .before .before .before .before .before .before .before .before .before .before .before .before .before .before .before .before .before .before .pre .4 .tiles-long)
 
--- src/lib.rt:288:1
 same-length-4 : tie.Need-same-length-4 Inv-loop μ-loop
 same-length-4 c = c .before .loop .inv .5 .long
 
--- src/lib.rt:288:1
 same-length-5 : tie.Need-same-length-5 Inv-loop μ-loop
 same-length-5 c = c .before .loop .inv .2 ∙ sym (c .before .before .before .before .before .before .before .before .before .before .before .before .before .before .before .before .before .before .before .before .before .before .before .before .before .before .pre .2)
 
--- src/lib.rt:288:1
 same-length-6 : tie.Need-same-length-6 Inv-loop μ-loop
 same-length-6 c = c .before .loop .inv .3 ∙ sym (c .before .before .before .before .before .before .before .before .before .before .before .before .before .before .before .before .before .before .before .before .before .before .before .before .before .before .pre .3)
 
--- src/lib.rt:288:1
 returns : tie.Need-returns Inv-loop μ-loop
 returns c =
     let a = c .before .before .before .before .before .before .before .before .before .before .before .before .before .before .before .before .before .before .before .before .before .before .before .before .before .before .args in

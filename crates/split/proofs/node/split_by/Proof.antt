@@ -10,69 +10,51 @@ use Rattle.solution.proofs.NodeLaws.{square-small}
 use borrow.Author.Needs.{needs}
 use Rattle.split.proofs.node.split_by.Statement.{statement}
 use Rattle.split.proofs.node.split_by.Tie as tie
-use Rattle.split.proofs.node.split_by.Reads as reads
-use Rattle.split.proofs.node.split_by.Lts as lts
-use Rattle.split.proofs.node.split_with.Reads as split-with-reads
 
--- src/node.rt:104:13
 add-m : tie.Need-add-m
 add-m c = search needs
 
--- src/node.rt:106:27
 sub-size : tie.Need-sub-size
 sub-size c = search needs
 
--- src/node.rt:106:16
 add-size : tie.Need-add-size
 add-size c = search needs
 
--- src/node.rt:107:17
 mul-cells : tie.Need-mul-cells
 mul-cells c = let z = square-small (length (c .before .before .before .args .c .now) + (length (c .before .before .before .args .a0 .now) - 1)) (let r = c .before .before .before .pre .0 .room in let h = c .before .before .before .pre .0 .high in omega arith) in omega arith
 
--- src/node.rt:120:9
 array-borrow-prefix-p0 : tie.Need-array-borrow-prefix-p0
 array-borrow-prefix-p0 c = search needs
 
--- src/node.rt:120:9
 slice-aggregate-split-with : tie.Need-slice-aggregate-split-with
 slice-aggregate-split-with c = sym (length-take-le _ zeros (let r = c .before .before .before .before .pre .0 .room in let h = c .before .before .before .before .pre .0 .high in omega arith))
 
--- src/node.rt:121:9
 array-borrow-prefix-b : tie.Need-array-borrow-prefix-b
 array-borrow-prefix-b c = search needs
 
--- src/node.rt:121:9
 slice-aggregate-split-with-2 : tie.Need-slice-aggregate-split-with-2
 slice-aggregate-split-with-2 c = sym (length-take-le _ zeros (let r = c .before .before .before .before .before .pre .0 .room in let h = c .before .before .before .before .before .pre .0 .low in omega arith))
 
--- src/node.rt:122:9
 array-borrow-prefix-row : tie.Need-array-borrow-prefix-row
 array-borrow-prefix-row c = search needs
 
--- src/node.rt:122:9
 slice-aggregate-split-with-3 : tie.Need-slice-aggregate-split-with-3
 slice-aggregate-split-with-3 c = sym (length-take-le _ zeros (let r = c .before .before .before .before .before .before .pre .0 .room in let h = c .before .before .before .before .before .before .pre .0 .high in omega arith))
 
--- src/node.rt:123:9
 array-borrow-prefix-table : tie.Need-array-borrow-prefix-table
 array-borrow-prefix-table c = let z = square-small (length (c .before .before .before .before .before .before .args .c .now) + (length (c .before .before .before .before .before .before .args .a0 .now) - 1)) (let r = c .before .before .before .before .before .before .pre .0 .room in let h = c .before .before .before .before .before .before .pre .0 .high in omega arith) in omega arith
 
--- src/node.rt:123:9
 slice-aggregate-split-with-4 : tie.Need-slice-aggregate-split-with-4
 slice-aggregate-split-with-4 c =
     let n = length (c .before .before .before .before .before .before .before .args .c .now) + (length (c .before .before .before .before .before .before .before .args .a0 .now) - 1) in
     sym (length-take-le (n * n) _ (let z = square-small n (let r = c .before .before .before .before .before .before .before .pre .0 .room in let h = c .before .before .before .before .before .before .before .pre .0 .high in omega arith) in omega arith))
 
--- src/node.rt:124:9
 array-borrow-prefix-e : tie.Need-array-borrow-prefix-e
 array-borrow-prefix-e c = search needs
 
--- src/node.rt:124:9
 slice-aggregate-split-with-5 : tie.Need-slice-aggregate-split-with-5
 slice-aggregate-split-with-5 c = sym (length-take-le _ zeros (let r = c .before .before .before .before .before .before .before .before .pre .0 .room in let h = c .before .before .before .before .before .before .before .before .pre .0 .high in omega arith))
 
--- src/node.rt:113:5
 split-with-requires : tie.Need-split-with-requires
 split-with-requires c κs =
     let a = c .before .before .before .before .before .before .before .before .before .args in
@@ -91,11 +73,9 @@ split-with-requires c κs =
       length-take-le n zeros (omega arith),
     )
 
--- src/node.rt:100:1
 same-length : tie.Need-same-length
 same-length c = search needs
 
--- src/node.rt:100:1
 returns : tie.Need-returns
 returns c = search needs
 

@@ -9,38 +9,28 @@ use Rattle.rows.proofs.RowsLaws.{zeros}
 use borrow.Author.Needs.{needs}
 use Rattle.split.proofs.node.split_node.Statement.{statement}
 use Rattle.split.proofs.node.split_node.Tie as tie
-use Rattle.split.proofs.node.split_node.Reads as reads
-use Rattle.split.proofs.node.split_node.Lts as lts
-use Rattle.split.proofs.node.split_roots.Reads as split-roots-reads
 
--- src/node.rt:143:13
 sub-k : tie.Need-sub-k
 sub-k c = search needs
 
--- src/node.rt:143:13
 add-k : tie.Need-add-k
 add-k c = search needs
 
--- src/node.rt:145:32
 array-borrow-prefix-a0 : tie.Need-array-borrow-prefix-a0
 array-borrow-prefix-a0 c = search needs
 
--- src/node.rt:145:32
 slice-aggregate-split-roots : tie.Need-slice-aggregate-split-roots
 slice-aggregate-split-roots c = sym (length-take-le _ zeros (let r = c .before .before .before .pre .0 .room in omega arith))
 
--- src/node.rt:145:5
 split-roots-requires : tie.Need-split-roots-requires
 split-roots-requires c κs =
     let a = c .before .before .before .before .args in
     let room = c .before .before .before .before .pre .0 .room in
     (c .before .before .before .before .pre .0, c .before .before .before .before .pre .1, length-take-le (length (a .c .now) - a .m + 1) zeros (omega arith))
 
--- src/node.rt:139:1
 same-length : tie.Need-same-length
 same-length c = search needs
 
--- src/node.rt:139:1
 returns : tie.Need-returns
 returns c = search needs
 

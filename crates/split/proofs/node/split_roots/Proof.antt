@@ -8,28 +8,19 @@ use Rattle.solution.proofs.NodeLaws.{node-start, node-split, node-rows, lines-d
 use borrow.Author.Needs.{needs}
 use Rattle.split.proofs.node.split_roots.Statement.{statement}
 use Rattle.split.proofs.node.split_roots.Tie as tie
-use Rattle.split.proofs.node.split_roots.Reads as reads
-use Rattle.split.proofs.node.split_roots.Lts as lts
-use Rattle.solution.proofs.product_of.Reads as product-of-reads
-use Rattle.split.proofs.node.split_by.Reads as split-by-reads
 
--- src/node.rt:134:19
 mul-product-of : tie.Need-mul-product-of
 mul-product-of c = search needs
 
--- src/node.rt:134:19
 sub-product-of : tie.Need-sub-product-of
 sub-product-of c = search needs
 
--- src/node.rt:134:19
 part-product-of-start : tie.Need-part-product-of-start
 part-product-of-start c = search needs
 
--- src/node.rt:134:19
 part-product-of-end : tie.Need-part-product-of-end
 part-product-of-end c = search needs
 
--- src/node.rt:134:5
 product-of-requires : tie.Need-product-of-requires
 product-of-requires c κs =
     let a = c .before .before .before .before .before .args in
@@ -37,14 +28,12 @@ product-of-requires c κs =
     let high = r .high in
     (r .prime .two-le, r .small, omega (arith, length-from (a .c .now) (a .m), c .before .before .before .before .before .pre .2), from-below (a .p) (a .c .now) (a .m) (r .below))
 
--- src/node.rt:135:17
 slice-aggregate-split-by : tie.Need-slice-aggregate-split-by
 slice-aggregate-split-by c =
     let a = c .before .before .before .before .before .before .before .before .before .args in
     let high = c .before .before .before .before .before .before .before .before .before .pre .0 .high in
     sym (length-take-le (a .m) (a .c .now) (omega arith))
 
--- src/node.rt:135:5
 split-by-requires : tie.Need-split-by-requires
 split-by-requires c κs =
     let a = c .before .before .before .before .before .before .before .before .before .before .before .args in
@@ -62,15 +51,12 @@ split-by-requires c κs =
       },
     )
 
--- src/node.rt:130:1
 same-length : tie.Need-same-length
 same-length c = search needs
 
--- src/node.rt:130:1
 same-length-2 : tie.Need-same-length-2
 same-length-2 c = search needs
 
--- src/node.rt:130:1
 returns : tie.Need-returns
 returns c =
     let a = c .before .before .before .before .before .before .before .before .before .before .before .before .before .before .args in

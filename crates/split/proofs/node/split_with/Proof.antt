@@ -9,26 +9,16 @@ use Rattle.solution.proofs.StepLaws.{store-fits}
 use borrow.Author.Needs.{needs}
 use Rattle.split.proofs.node.split_with.Statement.{statement}
 use Rattle.split.proofs.node.split_with.Tie as tie
-use Rattle.split.proofs.node.split_with.Reads as reads
-use Rattle.split.proofs.node.split_with.Lts as lts
-use Rattle.columns.proofs.store_column.Reads as store-column-reads
-use Rattle.solution.proofs.prepare_split.Reads as prepare-split-reads
-use Rattle.split.proofs.node.join.Reads as join-reads
-use Rattle.split.proofs.node.split_either.Reads as split-either-reads
 
--- src/node.rt:91:13
 sub-k : tie.Need-sub-k
 sub-k c = search needs
 
--- src/node.rt:92:5
 prepare-split-requires : tie.Need-prepare-split-requires
 prepare-split-requires c κs = search needs
 
--- src/node.rt:93:5
 join-requires : tie.Need-join-requires
 join-requires c κs = search needs
 
--- src/node.rt:94:5
 store-column-requires : tie.Need-store-column-requires
 store-column-requires c κs =
     let a = c .before .before .before .before .before .before .before .before .before .before .before .before .before .before .before .before .before .before .before .before .before .before .before .before .before .before .before .before .args in
@@ -37,7 +27,6 @@ store-column-requires c κs =
     let n = c .before .before .before .before .join .ensures .0 in
     (l .width, omega (arith, l .from-low, l .from-high, l .terms-high), omega (arith, n, r .0 .room), store-fits (length (a .c .now) + (length (a .a0 .now) - 1)) (a .n) (c .before .before .before .before .join .last .1 .1 .1 .1 .0) (a .rows .now) n (l .long))
 
--- src/node.rt:95:5
 split-either-requires : tie.Need-split-either-requires
 split-either-requires c κs =
     let a = c .before .before .before .before .before .before .before .before .before .before .before .before .before .before .before .before .before .before .before .before .before .before .before .before .before .before .before .before .before .before .before .before .before .before .before .before .args in
@@ -46,31 +35,24 @@ split-either-requires c κs =
     let j = c .before .before .before .before .before .before .before .before .before .before .before .before .join .ensures in
     (put-ready (a .p) (a .n) (a .h) (a .w) (a .c .now) (a .a0 .now) (c .before .before .before .before .before .before .before .before .before .before .before .before .before .before .before .before .before .before .before .before .before .before .before .prepare-split .last .1 .1 .1 .0) (c .before .before .before .before .before .before .before .before .before .before .before .before .before .before .before .before .before .before .before .before .before .before .before .prepare-split .last .1 .1 .1 .1 .1 .1 .0) (c .before .before .before .before .before .before .before .before .before .before .before .before .join .last .1 .1 .1 .1 .0) (a .rows .now) (c .before .before .before .before .before .before .before .store-column .last .1 .1 .1 .0) (r .0) (r .1) (q .0) (q .1 .0 ∙ r .5) (q .1 .1 .1) (j .0) (j .1 .0) (j .1 .1) (c .before .before .before .before .before .before .before .store-column .ensures), j .0, q .1 .1 .0 ∙ r .4)
 
--- src/node.rt:71:1
 same-length : tie.Need-same-length
 same-length c = search needs
 
--- src/node.rt:71:1
 same-length-2 : tie.Need-same-length-2
 same-length-2 c = search needs
 
--- src/node.rt:71:1
 same-length-3 : tie.Need-same-length-3
 same-length-3 c = search needs
 
--- src/node.rt:71:1
 same-length-4 : tie.Need-same-length-4
 same-length-4 c = search needs
 
--- src/node.rt:71:1
 same-length-5 : tie.Need-same-length-5
 same-length-5 c = search needs
 
--- src/node.rt:71:1
 same-length-6 : tie.Need-same-length-6
 same-length-6 c = search needs
 
--- src/node.rt:71:1
 returns : tie.Need-returns
 returns c =
     let a = c .before .before .before .before .before .before .before .before .before .before .before .before .before .before .before .before .before .before .before .before .before .before .before .before .before .before .before .before .before .before .before .before .before .before .before .before .before .before .before .before .before .before .before .args in
