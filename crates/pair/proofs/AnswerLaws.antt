@@ -69,14 +69,6 @@ module _ (p D N : ℕ) (f : List ℕ) (h w : ℕ) (old : List ℕ) where
   pub past-11 : judge (operationChecks p N f (D + 1) [] 0 (D + 1) (length old)) ≡ Pass → order D N f ≤ D → judge (pairChecks p D N f h w old) ≡ judge (c₁₃ ∷ c₁₄ ∷ c₁₅ ∷ [])
   past-11 e b = past-10 e ∙ skip-check c₁₁ (c₁₃ ∷ c₁₄ ∷ c₁₅ ∷ []) (le-ltb D (order D N f) b)
 
-  pub past-13 : judge (operationChecks p N f (D + 1) [] 0 (D + 1) (length old)) ≡ Pass → order D N f ≤ D → held p D N f h old ≡ true
-      → judge (pairChecks p D N f h w old) ≡ judge (c₁₄ ∷ c₁₅ ∷ [])
-  past-13 e b g = past-11 e b ∙ skip-check c₁₃ (c₁₄ ∷ c₁₅ ∷ []) (ap not g)
-
-  pub past-14 : judge (operationChecks p N f (D + 1) [] 0 (D + 1) (length old)) ≡ Pass → order D N f ≤ D → held p D N f h old ≡ true → outside 1 N w ≡ false
-      → judge (pairChecks p D N f h w old) ≡ judge (c₁₅ ∷ [])
-  past-14 e b g o = past-13 e b g ∙ skip-check c₁₄ (c₁₅ ∷ []) o
-
   pub pair-pass : judge (pairChecks p D N f h w old) ≡ Pass → PairInput p D N f h w old
   pair-pass e =
       let m = pass-parts (operationChecks p N f (D + 1) [] 0 (D + 1) (length old)) (c₁₁ ∷ c₁₃ ∷ c₁₄ ∷ c₁₅ ∷ []) e in
@@ -101,8 +93,9 @@ module _ (p D N : ℕ) (f : List ℕ) (h w : ℕ) (old : List ℕ) where
       let prime = operation-of i .inputs .modulus .prime in
       let high = i .high in
       let upto = i .upto in
-      past-14 (i .operates) (i .bound) (words-held p D N f h old (λ one. (omega arith, pair-passes p D N f prime (i .bound) h one old (i .words one)))) (within 1 N w (i .low) high)
-      ∙ skip-check c₁₅ [] (le-ltb w h upto) ∙ none-judged
+      past-11 (i .operates) (i .bound)
+      ∙ skip-check c₁₃ (c₁₄ ∷ c₁₅ ∷ []) (ap not (words-held p D N f h old (λ one. (omega arith, pair-passes p D N f prime (i .bound) h one old (i .words one)))))
+      ∙ skip-check c₁₄ (c₁₅ ∷ []) (within 1 N w (i .low) high) ∙ skip-check c₁₅ [] (le-ltb w h upto) ∙ none-judged
 
 pub given-of : {p D N : ℕ} {f : List ℕ} {d : ℕ} {room : ℕ} → Operation p N f (D + 1) [] 0 (D + 1) room → d ≡ order D N f → d ≤ D → PairGiven p D N f d
 given-of o e b = record {
