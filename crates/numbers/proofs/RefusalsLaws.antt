@@ -89,6 +89,9 @@ neither false b e = (refl, e)
 pub inside : (low high n : ℕ) → outside low high n ≡ false → (low ≤ n) × (n ≤ high)
 inside low high n e = let (a, b) = neither (ltb n low) (ltb high n) e in (ltb-false n low a, ltb-false high n b)
 
+pub within : (low high n : ℕ) → low ≤ n → n ≤ high → outside low high n ≡ false
+within low high n l g = rw (le-ltb n low l, le-ltb high n g)
+
 -- a polynomial has no more rows than its degree bound lets it have
 pub few-rows : (f g rows : ℕ) → ltb mostRows f || (ltb mostRows g || ltb mostRows rows) ≡ false → (f ≤ mostRows) × (g ≤ mostRows) × (rows ≤ mostRows)
 few-rows f g rows e =

@@ -90,6 +90,12 @@ decides-yes a = record { yes = λ _. a; no = λ e. true-false e }
 pub decides-no : {A : Type 0} → (A → ⊥) → Decides false A
 decides-no n = record { yes = λ e. true-false (sym e); no = λ _. n }
 
+-- what decides a statement is the test that stands for it
+pub decided-test : {A : Type 0} (b c : Bool) → (c ≡ true) ↔ A → Decides b A → b ≡ c
+decided-test true c e d = sym (e .1 (d .yes refl))
+decided-test false true e d = absurd (d .no refl (e .0 refl))
+decided-test false false e d = refl
+
 -- a comparison that is an answer
 pub decides-le : {A : Type 0} (m n : ℕ) → (m ≤ n → A) → (A → m ≤ n) → Decides (leb m n) A
 decides-le m n into out = record { yes = λ e. into (leb-true m n e); no = λ e a. let l = leb-false m n e in let u = out a in let z : ⊥ = omega arith in z }

@@ -6,8 +6,8 @@
 -- Assumes nothing.
 use Prim.Native.Nat.{ℕ, zero, _+_, _*_, _≤_, _<_}
 use native.Mathlib.Omega.{arith}
-use mathlib.Core.Path.{_≡_, refl, sym, ap, _∙_}
-use mathlib.Core.Bool.{Bool, true, false, not}
+use mathlib.Core.Path.{_≡_, sym, ap, _∙_}
+use mathlib.Core.Bool.{Bool, not}
 use mathlib.Core.List.{List, [], _∷_, _++_}
 use mathlib.Core.Logic.{_⊎_, ⊎-elim}
 use borrow.Author.Tests.{ltb-false, le-ltb, not-false}
@@ -15,18 +15,19 @@ use lib.Dec.{ltb}
 use lib.ListN.{length, take, drop, length-append, length-drop, List·getD-append}
 use lib.Seq.{drop-at, getD-take, length-take-le}
 use Rattle.algebra.specs.Prime.{Prime}
-use Rattle.numbers.specs.Words.{word, outside}
+use Rattle.numbers.specs.Words.{word}
 use Rattle.numbers.specs.internal.Facts.{Decides}
 use Rattle.numbers.specs.Refusals.{Check, check, judge, operationChecks, beyondCheck, behindCheck}
 use Rattle.numbers.specs.declared.refusal.Verdict.the-variants.{Pass}
-use Rattle.numbers.proofs.RefusalsLaws.{pass-parts, pass-check, after-pass, skip-check, none-judged, inside, Operation, operation-pass}
+use Rattle.numbers.proofs.TestsLaws.{decided-test}
+use Rattle.numbers.proofs.RefusalsLaws.{pass-parts, pass-check, after-pass, skip-check, none-judged, inside, within, Operation, operation-pass}
 use Rattle.rows.proofs.RowsLaws.{row-fits, by-row}
 use Rattle.pair.specs.Pair.{order, PairWords}
 use Rattle.pair.specs.Paired.{held, pairChecks, PairDone}
 use Rattle.pair.specs.Test.{pairTest}
 use Rattle.pair.specs.internal.Lifting.{PairGiven}
 use Rattle.pair.proofs.TestLaws.{held-words, words-held}
-use Rattle.pair.proofs.PairWordsLaws.{test-pair, pair-passes, words-ext, words-same, words-unique, words-agree}
+use Rattle.pair.proofs.PairWordsLaws.{pair-test, test-pair, pair-passes, words-ext, words-same, words-unique, words-agree}
 
 -- the checks after refusals 1 to 10
 abbrev pub flatCheck : (D N : ℕ) (f : List ℕ) → Check
@@ -34,9 +35,6 @@ flatCheck D N f = check 11 (ltb D (order D N f)) 0
 
 abbrev pub heldCheck : (p D N : ℕ) (f : List ℕ) (h : ℕ) (old : List ℕ) → Check
 heldCheck p D N f h old = check 13 (not (held p D N f h old)) 0
-
-within : (low high n : ℕ) → low ≤ n → n ≤ high → outside low high n ≡ false
-within low high n l g = rw (le-ltb n low l, le-ltb high n g)
 
 pub record PairInput (p D N : ℕ) (f : List ℕ) (h w : ℕ) (old : List ℕ) : Type 0 where
   pub operates : judge (operationChecks p N f (D + 1) [] 0 (D + 1) (length old)) ≡ Pass
@@ -132,11 +130,6 @@ module _ (p D N : ℕ) (f : List ℕ) (h w : ℕ) (old : List ℕ) (i : PairInpu
         rest = drop-at y (drop M old) M n;
       }
 
-decided : {A : Type 0} (b c : Bool) → Decides b A → (A → c ≡ true) → (c ≡ true → A) → b ≡ c
-decided true c d into out = sym (into (d .yes refl))
-decided false true d into out = absurd (d .no refl (out refl))
-decided false false d into out = refl
-
 -- words that are those of a pair worked out anew
 pub worked-decides : (p D N : ℕ) (f : List ℕ) (h : ℕ) (s y : List ℕ) {b : Bool} → Prime p → 1 ≤ h → h ≤ N → length y ≡ (D + 1) * N → PairWords p D N f h y
     → Decides b ((i : ℕ) → i < length y → word y i ≡ word s i) → Decides b (PairWords p D N f h s)
@@ -151,9 +144,11 @@ pub pair-decided : (p D N : ℕ) (f : List ℕ) (h : ℕ) (s : List ℕ) {b : Bo
     → Decides b (PairWords p D N f h (take ((D + 1) * N) s)) → b ≡ pairTest p D N f h s
 pair-decided p D N f h s {b} prime bound one top room d =
     let at : (j : ℕ) → j < D + 1 → (t : ℕ) → t < N → word (take ((D + 1) * N) s) (j * N + t) ≡ word s (j * N + t) = λ j l t u. getD-take ((D + 1) * N) s (j * N + t) 0 (omega (arith, row-fits j (D + 1) N l)) in
-    decided b (pairTest p D N f h s) d
-    (λ g. pair-passes p D N f prime bound h one s (words-ext p D N f h (take ((D + 1) * N) s) s one top (λ j l t u. sym (at j l t u)) g))
-    (λ e. words-ext p D N f h s (take ((D + 1) * N) s) one top at (test-pair p D N f prime bound h one s e))
+    decided-test b (pairTest p D N f h s) (pair-test p D N f prime bound h one s)
+    (record {
+      yes = λ q. words-ext p D N f h (take ((D + 1) * N) s) s one top (λ j l t u. sym (at j l t u)) (d .yes q);
+      no = λ q g. d .no q (words-ext p D N f h s (take ((D + 1) * N) s) one top at g);
+    })
 
 -- Continuing to w gives word for word what starting to w gives: the pair's words are one.
 pub done-unique : (p D N : ℕ) (f : List ℕ) (w : ℕ) (old new old′ new′ : List ℕ) → Prime p → zero < N → (D + 1) * N ≤ length old → (D + 1) * N ≤ length old′

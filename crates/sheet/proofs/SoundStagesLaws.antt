@@ -5,7 +5,7 @@
 -- Assumes nothing.
 use mathlib.Core.Path.{_≡_, refl, sym, ap, subst, _∙_}
 use mathlib.Core.Logic.{⊎-elim}
-use mathlib.Core.Bool.{Bool, true, false}
+use mathlib.Core.Bool.{Bool}
 use mathlib.Core.List.{List}
 use Prim.Native.Nat.{ℕ, _+_, _-_, _*_, _≤_, _<_, zero, suc}
 use native.Mathlib.Numerals.{add-one}
@@ -18,7 +18,8 @@ use Rattle.algebra.specs.Sums.{sumTo}
 use Rattle.algebra.proofs.SumsLaws.{sumTo-zero}
 use Rattle.numbers.specs.Words.{word, choose, part}
 use Rattle.numbers.specs.internal.Facts.{Decides}
-use Rattle.numbers.proofs.WordsLaws.{lt-or-ge, true-false}
+use Rattle.numbers.proofs.TestsLaws.{decided-test}
+use Rattle.numbers.proofs.WordsLaws.{lt-or-ge}
 use Rattle.layout.proofs.PlacesLaws.{count-sum}
 use Rattle.rows.proofs.RowsLaws.{row-fits}
 use Rattle.hensel.specs.Factors.{IsFactors}
@@ -216,10 +217,4 @@ module _ (s : List ℕ) (h : Front s) (w : ℕ) (rows : List ℕ) (g : Computed 
 
 -- the test's answer
 pub answers : (b : Bool) (s : List ℕ) → Decides b (Sound s) → b ≡ soundTest s
-answers b s d = go b (soundTest s) refl refl
-  where
-    go : (x y : Bool) → b ≡ x → soundTest s ≡ y → b ≡ soundTest s
-    go true true e f = e ∙ sym f
-    go false false e f = e ∙ sym f
-    go true false e f = true-false (sym (sound-test s .1 (d .yes e)) ∙ f)
-    go false true e f = absurd (d .no e (sound-test s .0 f))
+answers b s d = decided-test b (soundTest s) (sound-test s) d

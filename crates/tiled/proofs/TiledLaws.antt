@@ -267,24 +267,31 @@ module _ (N a b blocks t : ℕ) (low high old new pairs mid pairs′ tiles tiles
   }
 
 -- the column in its two parts
-module _ (N t m k : ℕ) (column old new : List ℕ) (inside : t < N) (n : length column ≡ m + k) (st : ColumnStored N t column old new) where
+module _ (m k : ℕ) (column : List ℕ) (n : length column ≡ m + k) where
   low-long : length (take m column) ≡ m
   low-long = length-take-le m column (omega arith)
 
   high-long : length (from column m) ≡ k
   high-long = length-from column m ∙ omega arith
 
+module _ (N t m k : ℕ) (column old new : List ℕ) (inside : t < N) (n : length column ≡ m + k) (st : ColumnStored N t column old new) where
+  abbrev nl : length (take m column) ≡ m
+  nl = low-long m k column n
+
+  abbrev nh : length (from column m) ≡ k
+  nh = high-long m k column n
+
   low-put : ColumnPut N t 0 (take m column) old new
   low-put = record {
-    here = λ j l. ap (λ x. word new (x * N + t)) (zero-add j) ∙ st .here j (omega (arith, low-long)) ∙ sym (getD-take m column j 0 (omega (arith, low-long)));
+    here = λ j l. ap (λ x. word new (x * N + t)) (zero-add j) ∙ st .here j (omega (arith, nl)) ∙ sym (getD-take m column j 0 (omega (arith, nl)));
     before = λ j l s g. let u : 0 + j ≡ j = zero-add j in
-        subst (λ x. word new (x * N + s) ≡ word old (x * N + s)) (sym u) (st .others j (omega (arith, low-long)) s (omega arith) (λ e. let z : ⊥ = omega arith in z));
+        subst (λ x. word new (x * N + s) ≡ word old (x * N + s)) (sym u) (st .others j (omega (arith, nl)) s (omega arith) (λ e. let z : ⊥ = omega arith in z));
   }
 
   high-put : ColumnPut N t m (from column m) old new
   high-put = record {
-    here = λ j l. st .here (m + j) (omega (arith, high-long)) ∙ sym (word-from column m j);
-    before = λ j l s g. st .others (m + j) (omega (arith, high-long)) s (omega arith) (λ e. let z : ⊥ = omega arith in z);
+    here = λ j l. st .here (m + j) (omega (arith, nh)) ∙ sym (word-from column m j);
+    before = λ j l s g. st .others (m + j) (omega (arith, nh)) s (omega arith) (λ e. let z : ⊥ = omega arith in z);
   }
 
 -- one column more, either way round
@@ -297,20 +304,14 @@ module _ (N m k paired blocks t : ℕ) (column pairs tiles pairs′ tiles′ : L
   sized : (a b u : ℕ) (rows ps ts : List ℕ) {x y x′ y′ : ℕ} → x ≡ x′ → y ≡ y′ → Tiled N a x b y blocks u rows ps ts → Tiled N a x′ b y′ blocks u rows ps ts
   sized a b u rows ps ts {x} {y} {x′} {y′} e q g = subst (λ v. Tiled N a v b y′ blocks u rows ps ts) e (subst (λ v. Tiled N a x b v blocks u rows ps ts) q g)
 
-  nl : length (take m column) ≡ m
-  nl = length-take-le m column (omega arith)
-
-  nh : length (from column m) ≡ k
-  nh = length-from column m ∙ omega arith
-
   pub beside-low : paired ≡ m → Turn (take m column) (from column m) → (old new : List ℕ) → Beside N m k paired blocks t old pairs tiles → ColumnStored N t column old new
       → Beside N m k paired blocks (t + 1) new pairs′ tiles′
   beside-low e f old new h st =
       ⊎-elim
       (λ (_, g). inl (
         e,
-        sized 0 m (t + 1) new pairs′ tiles′ nl nh
-            (f 0 m old new (sized 0 m t old pairs tiles (sym nl) (sym nh) g) (low-put N t m k column old new inside n st) (high-put N t m k column old new inside n st)),
+        sized 0 m (t + 1) new pairs′ tiles′ (low-long m k column n) (high-long m k column n)
+            (f 0 m old new (sized 0 m t old pairs tiles (sym (low-long m k column n)) (sym (high-long m k column n)) g) (low-put N t m k column old new inside n st) (high-put N t m k column old new inside n st)),
       ))
       (λ (ne, _, _). absurd (ne e)) h
 
@@ -321,8 +322,8 @@ module _ (N m k paired blocks t : ℕ) (column pairs tiles pairs′ tiles′ : L
       (λ (_, q, g). inr (
         ne,
         q,
-        sized m 0 (t + 1) new pairs′ tiles′ nh nl
-            (f m 0 old new (sized m 0 t old pairs tiles (sym nh) (sym nl) g) (high-put N t m k column old new inside n st) (low-put N t m k column old new inside n st)),
+        sized m 0 (t + 1) new pairs′ tiles′ (high-long m k column n) (low-long m k column n)
+            (f m 0 old new (sized m 0 t old pairs tiles (sym (high-long m k column n)) (sym (low-long m k column n)) g) (high-put N t m k column old new inside n st) (low-put N t m k column old new inside n st)),
       )) h
 
 -- before column 1 nothing stands beside the rows

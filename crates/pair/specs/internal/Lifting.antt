@@ -1,6 +1,6 @@
 -- What the lift knows. No public contract cites these.
 --   PairGiven p D N f d       f is a polynomial of D + 1 rows of N words below p, and d its order
---   PairStart p d N roots k s     what a split of the rows s begins with: d roots, all 0, and in column 0 of the rows from d on words that begin with a unit
+--   PairStart p d N roots size s  what a split of the rows s begins with: d roots, all 0, and a unit in column 0 of row d; size is a word for each of A's rows, and one more
 --   leadingColumn d N k s     column 0 of the k rows from row d on, and 0
 --   Begun p D N f h w s       s holds f's columns 0 and h..w − 1, between them the pair's, and 0 from column w on
 -- Assumes nothing.
