@@ -39,7 +39,7 @@ enum bk_refusal {
     BK_UNSPLIT = 9,       /* opening: f at X = 0 is no product of the Y - root, each taken at least once */
     BK_SHORT = 10,        /* the output is too short; detail: the words (or bytes) needed */
     BK_FLAT = 11,         /* pair: f has no row that is other than 0 at X = 0 */
-    BK_NO_UNIT = 12,      /* the divisor begins with 0; to invert: a number that is 0 */
+    BK_NO_UNIT = 12,      /* quotient: the divisor is 0, or its least power of X is above the dividend's; inverse: the series begins with 0, the number is 0 */
     BK_SPOILED = 13,      /* the words are no sound sheet; or, continuing a pair, not its first h terms followed by zeros, or h is above n */
     BK_BEYOND = 14,       /* the terms wanted are 0 or more than n */
     BK_BEHIND = 15,       /* the terms wanted are fewer than those there */
@@ -55,7 +55,8 @@ uint64_t bk_difference(uint32_t p, uint32_t value, uint32_t other);
 uint64_t bk_product(uint32_t p, uint32_t value, uint32_t other);
 uint64_t bk_inverse(uint32_t p, uint32_t value);
 
-/* Series: g + h, g - h, g * h, g / h, 1 / g. The answer is n. */
+/* Series: g + h, g - h, g * h, g / h, 1 / g. All n words are written, and the answer is n; but g / h, where the least power of X in h is e, is known to n - e
+ * terms only: that is then the answer, and 0 stands in the last e words. */
 uint64_t bk_series_sum(uint32_t p, uint32_t n, const uint32_t *g, size_t g_count, const uint32_t *h, size_t h_count, uint32_t *out, size_t out_count);
 uint64_t bk_series_difference(uint32_t p, uint32_t n, const uint32_t *g, size_t g_count, const uint32_t *h, size_t h_count, uint32_t *out, size_t out_count);
 uint64_t bk_series_product(uint32_t p, uint32_t n, const uint32_t *g, size_t g_count, const uint32_t *h, size_t h_count, uint32_t *out, size_t out_count);

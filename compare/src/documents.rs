@@ -1,9 +1,9 @@
 //! Document 01's examples, by the words that it prints, and what document 02 changes in them: the sheet that F-8 makes smaller, the moduli of F-2, the one call for
-//! the pair of F-4.
+//! the pair of F-4, the quotient of F-5.
 
 use crate::random::Random;
 use crate::report::{engine, Outcome, Report};
-use bopkheul::{listing, numbers, pair, sheet};
+use bopkheul::{listing, numbers, pair, series, sheet};
 
 fn example<T: PartialEq + std::fmt::Debug>(report: &mut Report, what: &str, is: T, expected: T) {
     report.expect(is == expected, &format!("document 01, {what}: {is:?} is not {expected:?}"));
@@ -76,6 +76,14 @@ fn larger_moduli(report: &mut Report) {
     }
 }
 
+/// X + X² by X, over 7.
+fn the_quotient(report: &mut Report) {
+    let mut out = [9; 4];
+    let divided = engine(series::quotient(7, 3, &[0, 1, 1], &[0, 1, 0], &mut out));
+    report.expect(divided == Ok(2) && out == [1, 1, 0, 9], "document 02, F-5: X + X² by X is 1 + X, to two terms");
+    report.kind("the quotient of document 02's F-5");
+}
+
 /// Y^d with n columns, opened with the root 0.
 fn power_of_y(d: u32, n: u32, room: usize) -> Outcome {
     let width = n as usize;
@@ -100,4 +108,5 @@ pub fn run(_: &mut Random, report: &mut Report) {
     larger_moduli(report);
     limits(report);
     three_roots(report);
+    the_quotient(report);
 }

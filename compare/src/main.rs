@@ -10,6 +10,7 @@ mod numbers;
 mod old_layout;
 mod pairs;
 mod polynomials;
+mod quotients;
 mod random;
 mod reading;
 mod report;
@@ -23,7 +24,7 @@ use std::process::exit;
 
 type Section = fn(&mut Random, &mut Report);
 
-const SECTIONS: [Section; 11] = [
+const SECTIONS: [Section; 12] = [
     documents::run,
     numbers::run,
     series::run,
@@ -35,6 +36,7 @@ const SECTIONS: [Section; 11] = [
     listings::run,
     demand_3::run,
     reading::run,
+    quotients::run,
 ];
 
 fn seeds() -> Vec<u64> {

@@ -68,10 +68,11 @@ pub const OPERATIONS: [Operation; 23] = [
 ];
 
 /// Kinds of inputs: each must have come up.
-pub const KINDS: [&str; 84] = [
+pub const KINDS: [&str; 95] = [
     "document 01's examples",
     "the sheet of document 02's F-8",
     "the moduli of document 02's F-2",
+    "the quotient of document 02's F-5",
     "every modulus from 0 to 66,000",
     "every modulus from 16,776,000 to 16,778,000",
     "a prime below 4,096, squared",
@@ -80,6 +81,16 @@ pub const KINDS: [&str; 84] = [
     "a power of p or more",
     "32 rows or 256 columns",
     "several faults at once",
+    "quotient: no power of X in either",
+    "quotient: equal least powers, 1 or more",
+    "quotient: the dividend's least power is higher",
+    "quotient: the dividend's least power is lower",
+    "quotient: zeros by a divisor that is not 0",
+    "quotient: a divisor of zeros",
+    "quotient: zeros by zeros",
+    "quotient: 256 terms, every least power of the divisor",
+    "quotient: a product by one of its factors",
+    "quotient: every set of refusals at once",
     "pair: order 0",
     "pair: order between",
     "pair: order D",

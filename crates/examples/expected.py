@@ -40,18 +40,28 @@ def series(op,p,n,g,h,buf):
     hs=[h] if h is not None else []
     r=inputs(p,n,[g]+hs,[0]*(1+len(hs)),0) or ((10,n) if len(buf)<n else None)
     div=h if op=='div' else g
-    if not r and op in('div','inv') and div[0]==0: r=(12,0)
+    known=n
+    if not r and op=='inv' and div[0]==0: r=(12,0)
+    if not r and op=='div': # X is cancelled as long as the divisor begins with 0
+        f=g
+        while div and div[0]==0 and f[0]==0: f,div=f[1:],div[1:]
+        known=len(div)
+        if not div or div[0]==0: r=(12,0)
     a=None
     if not r:
         if op=='sum': a=[(x+y)%p for x,y in zip(g,h)]
         if op=='diff': a=[(x-y)%p for x,y in zip(g,h)]
         if op=='mul': a=[sum(g[i]*h[t-i] for i in range(t+1))%p for t in range(n)]
         if op in('div','inv'):
-            f=g if op=='div' else [1]+[0]*(n-1); d=div; a=[]
-            for t in range(n): a.append((f[t]-sum(d[i]*a[t-i] for i in range(1,t+1)))*pow(d[0],-1,p)%p)
-    say(r,n,a,buf)
+            if op=='inv': f=[1]+[0]*(n-1)
+            d=div; a=[]
+            for t in range(known): a.append((f[t]-sum(d[i]*a[t-i] for i in range(1,t+1)))*pow(d[0],-1,p)%p)
+            a+=[0]*(n-known)
+    say(r,known,a,buf)
 g=[1,2,3];h=[4,5,6];buf=[9]*4
 series('sum',7,3,g,h,buf);series('diff',7,3,g,h,buf);series('mul',7,3,g,h,buf);series('div',7,3,g,h,buf);series('inv',7,3,h,None,buf)
+buf=[9]*4
+for a,b in ([0,1,1],[0,1,0]),([0,0,0],[0,5,6]),([0,0,6],[0,0,2]),([0,0,6],[0,5,6]),([0,0,0],[0,0,0]): series('div',7,3,a,b,buf)
 zero=[0,5,6];large=[4,9,7];buf=[9]*4;short=[9]*2
 series('div',7,3,g,zero,buf);series('div',7,3,g,zero,short);series('inv',7,3,zero,None,short)
 series('mul',7,3,g,large,buf);series('mul',7,3,large,g,buf);series('mul',7,4,g,large,buf);series('mul',7,257,g,large,buf);series('mul',6,0,g,large,buf)

@@ -35,12 +35,26 @@ pub fn product(p: u32, n: u32, g: &[u32], h: &[u32], out: &mut [u32]) -> Answer 
     write(&series_product(p as u64, &series(g), &series(h)), out)
 }
 
-/// f / g.
+/// What is left of f and g when X is taken out of both until g begins with another number; nothing where X is not in f, or g is 0.
+fn without_x<'a>(f: &'a [u32], g: &'a [u32]) -> Option<(&'a [u32], &'a [u32])> {
+    match (f, g) {
+        ([0, f @ ..], [0, g @ ..]) => without_x(f, g),
+        (_, [] | [0, ..]) => None,
+        _ => Some((f, g)),
+    }
+}
+
+/// f / g, to as many terms as are left when what both have of X is taken out.
 pub fn quotient(p: u32, n: u32, f: &[u32], g: &[u32], out: &mut [u32]) -> Answer {
     judged(p, n, &[f, g], out)?;
-    judge(&[(12, &|| when(g[0] == 0))])?;
+    let left = without_x(f, g);
+    judge(&[(12, &|| when(left.is_none()))])?;
+    let (f, g) = left.expect("row 12 has been judged");
     let p = p as u64;
-    write(&series_product(p, &series(f), &series_inverse(p, &series(g))), out)
+    let mut h = series_product(p, &series(f), &series_inverse(p, &series(g)));
+    h.resize(n as usize, 0);
+    write(&h, out)?;
+    Ok(g.len() as u32)
 }
 
 pub fn inverse(p: u32, n: u32, g: &[u32], out: &mut [u32]) -> Answer {

@@ -1,6 +1,6 @@
-//! The examples of document 01, the sheet of F-8, F-2's moduli and job files, and F-4's one call for the pair.
+//! The examples of document 01, the sheet of F-8, F-2's moduli and job files, F-4's one call for the pair, and F-5's quotients.
 
-use second::{listing, numbers, pair, sheet, Refusal};
+use second::{listing, numbers, pair, series, sheet, Refusal};
 
 fn refused(number: u32, detail: u32) -> Result<u32, Refusal> {
     Err(Refusal { number, detail })
@@ -48,6 +48,18 @@ fn pairs() {
     let mut out = [9; 2];
     assert_eq!(pair::pair(5, 1, 1, &[1, 1], 0, 1, &mut out), Ok(0));
     assert_eq!(out, [1, 1]);
+}
+
+#[test]
+fn quotients_with_x_in_common() {
+    let mut out = [9; 4];
+    let mut call = |f: [u32; 3], g: [u32; 3]| (series::quotient(7, 3, &f, &g, &mut out), out);
+    assert_eq!(call([0, 1, 1], [0, 1, 0]), (Ok(2), [1, 1, 0, 9]));
+    assert_eq!(call([0, 0, 0], [0, 0, 3]), (Ok(1), [0, 0, 0, 9]));
+    assert_eq!(call([1, 2, 3], [1, 1, 0]), (Ok(3), [1, 1, 2, 9]));
+    for (f, g) in [([0, 0, 0], [0, 0, 0]), ([0, 0, 1], [0, 0, 0]), ([1, 0, 0], [0, 1, 0])] {
+        assert_eq!(call(f, g), (refused(12, 0), [1, 1, 2, 9]));
+    }
 }
 
 /// A pair to two terms, which h = 0 starts and only h = 2 can continue.

@@ -76,7 +76,7 @@ impl fmt::Display for Refusal {
             Kind::Unsplit => write!(to, "at X = 0 the polynomial is no product of powers of the listed roots"),
             Kind::Short => write!(to, "the output is too short: {detail} words are needed, or bytes for a listing"),
             Kind::Flat => write!(to, "every row is 0 at X = 0, so there is no pair"),
-            Kind::NoUnit => write!(to, "the divisor begins with 0, or 0 is to be inverted"),
+            Kind::NoUnit => write!(to, "the divisor is 0 or has more of X than the dividend; or what is to be inverted begins with 0"),
             Kind::Spoiled => write!(to, "the words are not those of a sound sheet, or not the terms of the pair to go on from"),
             Kind::Beyond => write!(to, "the terms wanted are none, or more than there are columns"),
             Kind::Behind => write!(to, "the terms wanted are fewer than those there"),

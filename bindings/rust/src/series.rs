@@ -1,4 +1,5 @@
-//! Series of `n` words. The answer is `n`, the number of words written to the front of `out`.
+//! Series of `n` words. Every call that is accepted writes `n` words to the front of `out`, and answers how many of them are known: all `n`, but for a quotient
+//! by a series that begins with 0.
 
 use crate::raw::{answer, bk_series_difference, bk_series_inverse, bk_series_product, bk_series_quotient, bk_series_sum};
 use crate::Answer;
@@ -33,7 +34,16 @@ pub fn product(p: u32, n: u32, g: &[u32], h: &[u32], out: &mut [u32]) -> Answer 
     answer(unsafe { bk_series_product(p, n, g.as_ptr(), g.len(), h.as_ptr(), h.len(), out.as_mut_ptr(), out.len()) })
 }
 
-/// g / h, where h is not 0 at X = 0.
+/// g / h, where h is not 0 and its least power of X, e, is at most that of g (zeros have every power in common).
+///
+/// The answer is the number of terms that are known, `n − e`; 0 stands after them. Multiplied by h they give g back.
+///
+/// ```
+/// // X + X² by X, modulo 7, to 3 terms: 1 + X, and of the third term nothing is known
+/// let mut out = [0; 3];
+/// assert_eq!(bopkheul::series::quotient(7, 3, &[0, 1, 1], &[0, 1, 0], &mut out), Ok(2));
+/// assert_eq!(out, [1, 1, 0]);
+/// ```
 ///
 /// # Errors
 ///

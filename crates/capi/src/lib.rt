@@ -7,12 +7,13 @@ use residues::NumberAnswer;
 ghost use mathlib.Core.Path.{_≡_};
 ghost use mathlib.Core.Bool.{cond};
 ghost use mathlib.Core.List.{[], _∷_};
-ghost use Prim.Native.Nat.{_+_, _*_};
+ghost use Prim.Native.Nat.{_+_, _-_, _*_};
 ghost use lib.ListN.{length};
 ghost use Rattle.numbers.specs.Words.{over, lowWord};
 ghost use Rattle.numbers.specs.Refusals.{judge, outcome, refused, result, written, Leaves};
 ghost use Rattle.residues.specs.Number.{numberOutcome, sumOf, differenceOf, productOf, inverseNumber};
-ghost use Rattle.series.specs.Series.{seriesChecks, inverseChecks, quotientChecks, sums, differences, product, quotient};
+ghost use Rattle.series.specs.Series.{seriesChecks, inverseChecks, sums, differences, product, quotient};
+ghost use Rattle.series.specs.Quotient.{leastPower, quotientChecks, QuotientDone};
 ghost use Rattle.rows.specs.Rows.{rowsChecks, productChecks, shiftChecks, rowProduct, rowShift};
 ghost use Rattle.pair.specs.Paired.{pairChecks, PairDone};
 ghost use Rattle.pair.specs.Pair.{order};
@@ -109,9 +110,9 @@ pub extern "C" fn bk_series_product(p: u32, n: u32, g: &[u32], h: &[u32], out: &
 
 #[no_mangle]
 pub extern "C" fn bk_series_quotient(p: u32, n: u32, g: &[u32], h: &[u32], out: &mut [u32]) -> u64
-    ensures answer { λ r. ⌜ r ≡ packed (result (judge (quotientChecks p n (now (g .entry)) (now (h .entry)) (length (now (out .entry))))) n) ⌝ }
-    ensures words { λ _. ⌜ now (out .exit) ≡ written (judge (quotientChecks p n (now (g .entry)) (now (h .entry)) (length (now (out .entry)))))
-        (over (quotient p n (now (g .entry)) (now (h .entry))) (now (out .entry))) (now (out .entry)) ⌝ }
+    ensures answer { λ r. ⌜ r ≡ packed (result (judge (quotientChecks p n (now (g .entry)) (now (h .entry)) (length (now (out .entry))))) (n - leastPower (now (h .entry)))) ⌝ }
+    ensures words { λ _. ⌜ Leaves (judge (quotientChecks p n (now (g .entry)) (now (h .entry)) (length (now (out .entry)))))
+        (QuotientDone p n (now (g .entry)) (now (h .entry)) (now (out .entry)) (now (out .exit))) (now (out .entry)) (now (out .exit)) ⌝ }
 {
     pack(series::quotient(p, n, g, h, out))
 }

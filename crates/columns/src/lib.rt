@@ -1,8 +1,9 @@
 // Columns of rows: loaded, stored, gathered, set; and one digit of a column, E = q · A + (Y − c) · B, by Horner's scheme: no derivative, no gcd, and
-// nothing is divided by but A(c). These trust their caller: they have a `requires`, all but `repeat`, and are for the crates of this
-// repository. All are proved for every modulus below 2^24.
+// nothing is divided by but A(c). These trust their caller: they have a `requires`, and are for the crates of this repository. All are proved for every
+// modulus below 2^24.
 use numbers::kernel::inverse_of;
 use rows::kernel::passes;
+use series::kernel::repeat;
 ghost use mathlib.Core.Path.{_≡_};
 ghost use Prim.Native.Nat.{_+_, _-_, _*_, _%_, _≤_, _<_};
 ghost use lib.ListN.{length};
@@ -157,17 +158,6 @@ pub fn copy(words: &[u32], out: &mut [u32])
     let mut i = 0;
     while i < words.len() {
         out[i] = words[i];
-        i += 1;
-    }
-}
-
-// One word, over and over.
-pub fn repeat(x: u32, out: &mut [u32])
-    ensures { λ _. ⌜ now (out .exit) ≡ tabulate (length (now (out .entry))) (λ _. x) ⌝ }
-{
-    let mut i = 0;
-    while i < out.len() {
-        out[i] = x;
         i += 1;
     }
 }

@@ -126,6 +126,20 @@ fn series_examples() {
     say_words(series::inverse(7, 3, &h, &mut out), &out);
 }
 
+// X + X² by X, zeros by 5X + 6X², and more with X in common; zeros by zeros are refused.
+fn common_powers() {
+    let x = [0u32, 1, 0];
+    let zeros = [0u32, 0, 0];
+    let line = [0u32, 5, 6];
+    let square = [0u32, 0, 6];
+    let mut out = [9u32; 4];
+    say_quotient(7, 3, &[0, 1, 1], &x, &mut out);
+    say_quotient(7, 3, &zeros, &line, &mut out);
+    say_quotient(7, 3, &square, &[0, 0, 2], &mut out);
+    say_quotient(7, 3, &square, &line, &mut out);
+    say_quotient(7, 3, &zeros, &zeros, &mut out);
+}
+
 // Two refusals at once: the one with the lower number is given, and no word changes.
 fn series_refusals() {
     let g = [1u32, 2, 3];
@@ -372,6 +386,7 @@ fn main() {
     all_four(4294967295, 4294967295, 4294967295);
     all_four(2, 1, 1);
     series_examples();
+    common_powers();
     series_refusals();
     row_examples();
     pair_examples();

@@ -1,19 +1,19 @@
 -- Laws of the definitions of `specs/Words`: what a search finds, and lists that a loop fills word by word.
 -- Assumes nothing.
 use mathlib.Core.Path.{_≡_, refl, sym, ap, subst, _∙_}
-use mathlib.Core.Bool.{Bool, true, false}
+use mathlib.Core.Bool.{Bool, true, false, not}
 use mathlib.Core.Logic.{⊎-elim, _⊎_, inl, inr}
 use mathlib.Core.List.{List, [], _∷_, _++_, append-assoc, append-nil}
-use Prim.Native.Nat.{ℕ, zero, suc, _+_, _-_, _≤_, _<_}
+use Prim.Native.Nat.{ℕ, zero, suc, _+_, _-_, _≤_, _<_, zero-le}
 use native.Mathlib.Nat.{le-of-suc-le-suc, eq-or-lt-of-le, le-refl}
 use native.Mathlib.Decide.{decLt}
 use native.Mathlib.Numerals.{add-one}
 use native.Mathlib.Omega.{arith}
-use borrow.Author.Tests.{le-leb, lt-leb, leb-false, leb-true}
-use lib.Dec.{leb}
+use borrow.Author.Tests.{le-leb, lt-leb, leb-false, leb-true, ne-eqb, eqb-false, eqb-true, not-true, not-false}
+use lib.Dec.{leb, eqb}
 use lib.ListN.{length, take, drop, set, List·getD-append, length-set, length-append, length-drop}
 use lib.Seq.{set-at, drop-cons, take-at, drop-at, drop-drop, drop-length, take-all, getD-at, getD-drop, getD-append-add}
-use Rattle.numbers.specs.Words.{word, choose, firstWhere, firstLarge, tabulate, over}
+use Rattle.numbers.specs.Words.{word, choose, firstWhere, firstNonzero, firstLarge, tabulate, over}
 use Rattle.numbers.specs.internal.Facts.{AllBelow}
 
 pub lt-or-ge : (a b : ℕ) → (a < b) ⊎ (b ≤ a)
@@ -71,6 +71,35 @@ pub first-found : (f : ℕ → Bool) (d n : ℕ) → firstWhere f d n < d + n �
 unfolding firstWhere
 first-found f d zero l = absurd (let z : ⊥ = omega arith in z)
 first-found f d (suc n) l = found f d n (firstWhere f (suc d) n) (f d) refl (first-found f (suc d) n) l
+
+-- the same of the first place that is not 0
+module _ (n : ℕ) (f : ℕ → ℕ) where
+  pub nonzero-is : (r : ℕ) → r ≤ n → ((k : ℕ) → k < r → f k ≡ 0) → (r < n → f r ≡ 0 → ⊥) → r ≡ firstNonzero n f
+  unfolding firstNonzero
+  nonzero-is r h zeros there =
+      sym (first-is (λ i. not (eqb (f i) 0)) 0 n r zero-le (omega arith) (λ l. ap not (ne-eqb (f r) 0 (there (omega arith))))
+      (λ k _ l e. eqb-false (f k) 0 (not-true _ e) (zeros k l)))
+
+  pub nonzero-le : firstNonzero n f ≤ n
+  unfolding firstNonzero
+  nonzero-le = let r = first-range (λ i. not (eqb (f i) 0)) 0 n in omega arith
+
+  pub nonzero-there : firstNonzero n f < n → f (firstNonzero n f) ≡ 0 → ⊥
+  unfolding firstNonzero
+  nonzero-there l = eqb-false _ 0 (not-true _ (first-found (λ i. not (eqb (f i) 0)) 0 n (omega arith)))
+
+  pub nonzero-before : (k : ℕ) → k < firstNonzero n f → f k ≡ 0
+  unfolding firstNonzero
+  nonzero-before k l = eqb-true _ 0 (not-false _ (first-before (λ i. not (eqb (f i) 0)) 0 n k zero-le l (omega (arith, nonzero-le))))
+
+  pub zeros-nonzero : (m : ℕ) → m ≤ n → ((k : ℕ) → k < m → f k ≡ 0) → m ≤ firstNonzero n f
+  zeros-nonzero m h zeros =
+      ⊎-elim (λ (l : firstNonzero n f < m). absurd (nonzero-there (omega arith) (zeros _ l))) (λ (l : m ≤ firstNonzero n f). l) (lt-or-ge (firstNonzero n f) m)
+
+pub nonzero-ext : (n : ℕ) {f g : ℕ → ℕ} → ((k : ℕ) → k < n → f k ≡ g k) → firstNonzero n f ≡ firstNonzero n g
+nonzero-ext n {f} {g} e =
+    let r = nonzero-le n f in
+    nonzero-is n g (firstNonzero n f) r (λ k l. sym (e k (omega arith)) ∙ nonzero-before n f k l) (λ l z. nonzero-there n f l (e _ l ∙ z))
 
 pub below-append : (p : ℕ) (s t : List ℕ) → AllBelow p (s ++ t) → AllBelow p s × AllBelow p t
 below-append p s t h = (

@@ -2,6 +2,7 @@
 --   word s i             word i of s
 --   choose b x y         x where the test b holds, else y
 --   firstWhere test d n  the first of d, d + 1, .., d + n − 1 that passes the test, or d + n
+--   firstNonzero n f     the first of 0, 1, .., n − 1 at which f is not 0, or n
 --   allTo n test         the test holds of 0, 1, .., n − 1
 --   all tests            all of these hold
 --   firstLarge p s       the position of the first word of s that is p or more, or the length of s
@@ -12,9 +13,9 @@
 --   part s a n           the n words of s from word a on
 -- Assumes nothing.
 use Prim.Native.Nat.{ℕ, zero, suc, _%_}
-use mathlib.Core.Bool.{Bool, true, false, _||_}
+use mathlib.Core.Bool.{Bool, true, false, not, _||_}
 use mathlib.Core.List.{List, [], _∷_, _++_}
-use lib.Dec.{leb, ltb}
+use lib.Dec.{leb, ltb, eqb}
 use lib.ListN.{length, getD, take, drop}
 
 abbrev pub word : List ℕ → ℕ → ℕ
@@ -27,6 +28,9 @@ choose false x y = y
 unfoldable pub firstWhere : (ℕ → Bool) → ℕ → ℕ → ℕ
 firstWhere test d zero = d
 firstWhere test d (suc n) = choose (test d) d (firstWhere test (suc d) n)
+
+unfoldable pub firstNonzero : ℕ → (ℕ → ℕ) → ℕ
+firstNonzero n f = firstWhere (λ i. not (eqb (f i) 0)) 0 n
 
 unfoldable pub allTo : ℕ → (ℕ → Bool) → Bool
 allTo zero test = true

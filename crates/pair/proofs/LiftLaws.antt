@@ -92,7 +92,7 @@ module _ (p D N : ℕ) (f : List ℕ) (prime : Prime p) (below : AllBelow p f) (
   pub first-column : (k : ℕ) (s : List ℕ) → 1 ≤ k → PairWords p D N f k s → (j : ℕ) → j < D + 1 → word s (j * N) ≡ word f (j * N)
   first-column k s one h j l =
       sym (at-first s j)
-      ∙ ⊎-elim (λ (g : j < d). sym (low-word N d s j 0 g) ∙ h .pair .first j g ∙ sym (order-least D N f bound j g))
+      ∙ ⊎-elim (λ (g : j < d). sym (low-word N d s j 0 g) ∙ h .pair .first j g ∙ sym (order-least D N f j g))
       (λ (g : d ≤ j).
       let e : d + (j - d) ≡ j = omega arith in
       subst (λ x. word s (x * N + 0) ≡ given D N f x 0) e
@@ -107,7 +107,7 @@ module _ (p D N : ℕ) (f : List ℕ) (prime : Prime p) (below : AllBelow p f) (
     first-given j l = at-first s j ∙ first j l ∙ sym (given-first j l)
 
     low-none : (j : ℕ) → j < d → lowRows N d s j 0 ≡ 0
-    low-none j l = low-word N d s j 0 l ∙ first-given j (omega arith) ∙ order-least D N f bound j l
+    low-none j l = low-word N d s j 0 l ∙ first-given j (omega arith) ∙ order-least D N f j l
 
     high-given : (j : ℕ) → d + j < D + 1 → highRows D N d s j 0 ≡ given D N f (d + j) 0
     high-given j l = high-word D N d s j 0 l ∙ first-given (d + j) l
@@ -117,7 +117,7 @@ module _ (p D N : ℕ) (f : List ℕ) (prime : Prime p) (below : AllBelow p f) (
 
     first-product : (j : ℕ) → j < D + 1 → product s j 0 ≡ given D N f j 0
     first-product j l =
-        ⊎-elim (λ (u : j < d). first-low prime d (lowRows N d s) (highRows D N d s) low-none j u ∙ sym (order-least D N f bound j u))
+        ⊎-elim (λ (u : j < d). first-low prime d (lowRows N d s) (highRows D N d s) low-none j u ∙ sym (order-least D N f j u))
         (λ (u : d ≤ j).
         let e : d + (j - d) ≡ j = omega arith in
         subst (λ x. product s x 0 ≡ given D N f x 0) e
@@ -195,7 +195,7 @@ module _ (p D N : ℕ) (f : List ℕ) (prime : Prime p) (below : AllBelow p f) (
       pair = record {
         bound = bound;
         there = order-there D N f bound;
-        least = order-least D N f bound;
+        least = order-least D N f;
         first = low-none new first-is;
         height = λ j t l. high-past D N d new j t l;
         unit = unit-there new first-is;
@@ -335,7 +335,7 @@ module _ (p D N : ℕ) (f : List ℕ) (prime : Prime p) (below : AllBelow p f) (
       ⊎-elim
       (λ (g : j < e).
       done .first-low j g ∙ zeros-low p prime roots P roots-zero (split .lines-low) j (omega arith)
-      ∙ sym (b .first j l ∙ ap (word f) (sym (add-zero (j * N))) ∙ sym (rows-below f N (D + 1) j 0 l) ∙ order-least D N f bound j g))
+      ∙ sym (b .first j l ∙ ap (word f) (sym (add-zero (j * N))) ∙ sym (rows-below f N (D + 1) j 0 l) ∙ order-least D N f j g))
       (λ (g : e ≤ j).
       let z : e + (j - e) ≡ j = omega arith in
       subst (λ x. word new (x * N) ≡ word s (x * N)) z

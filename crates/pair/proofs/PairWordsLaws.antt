@@ -1,4 +1,5 @@
 -- The pair as words.
+--   order-words                the order, as a loop finds it
 --   order-there, order-least   what the order is
 --   low-word, high-word        the rows of P below Y^d and of A, in the words
 --   words-ext                  any list that begins with the words of a pair has that pair
@@ -11,19 +12,19 @@ use native.Mathlib.Nat.{add-mul, add-zero}
 use native.Mathlib.Omega.{arith}
 use mathlib.Core.Path.{_≡_, refl, sym, _∙_, ap, subst}
 use mathlib.Core.Logic.{_≢_, _↔_, ⊎-elim}
-use mathlib.Core.Bool.{true, not}
+use mathlib.Core.Bool.{true}
 use mathlib.Core.List.{List}
-use borrow.Author.Tests.{ne-eqb, eqb-true, eqb-false, not-true, not-false, lt-ltb, le-ltb}
-use lib.Dec.{eqb, ltb}
+use borrow.Author.Tests.{ne-eqb, eqb-false, not-true, lt-ltb, le-ltb}
+use lib.Dec.{ltb}
 use lib.ListN.{length, take, drop}
 use lib.Seq.{ext-getD, getD-take, getD-drop, length-take-le}
 use Rattle.algebra.specs.Prime.{Prime}
 use Rattle.algebra.proofs.FpLaws.{p-pos}
-use Rattle.numbers.specs.Words.{word, choose}
+use Rattle.numbers.specs.Words.{word, choose, firstNonzero}
 use Rattle.numbers.specs.internal.Facts.{AllBelow}
-use Rattle.numbers.proofs.WordsLaws.{lt-or-ge, first-before, first-found}
+use Rattle.numbers.proofs.WordsLaws.{lt-or-ge, nonzero-ext, nonzero-there, nonzero-before}
 use Rattle.numbers.proofs.TestsLaws.{all-at, all-of, _&_, none-left, square}
-use Rattle.rows.specs.Rows.{table, mul, monic}
+use Rattle.rows.specs.Rows.{rowsOf, table, mul, monic}
 use Rattle.rows.proofs.RowsLaws.{rows-below, rows-past, rows-bound, length-table, word-table, by-row}
 use Rattle.rows.proofs.RowsBelowLaws.{rowsBelow-at, at-rowsBelow}
 use Rattle.rows.proofs.MulLaws.{mul-ext}
@@ -32,14 +33,18 @@ use Rattle.pair.specs.Test.{productTest, pairTest}
 use Rattle.rows.proofs.MonicLaws.{monic-ext}
 use Rattle.pair.proofs.PairLaws.{pair-unique, pair-b, pair-c, pair-lt, pair-is}
 
+pub order-words : (f : List ℕ) (n rows : ℕ) → firstNonzero rows (λ j. word f (j * n)) ≡ orderOf rows (rowsOf f n rows)
+unfolding orderOf
+order-words f n rows = nonzero-ext rows (λ j l. sym (rows-below f n rows j 0 l ∙ ap (word f) (add-zero (j * n))))
+
 module _ (D N : ℕ) (f : List ℕ) where
   pub order-there : order D N f ≤ D → given D N f (order D N f) 0 ≢ 0
   unfolding orderOf
-  order-there l = eqb-false _ 0 (not-true _ (first-found (λ j. not (eqb (given D N f j 0) 0)) 0 (D + 1) (omega arith)))
+  order-there l = nonzero-there (D + 1) (λ j. given D N f j 0) (omega arith)
 
-  pub order-least : order D N f ≤ D → (j : ℕ) → j < order D N f → given D N f j 0 ≡ 0
+  pub order-least : (j : ℕ) → j < order D N f → given D N f j 0 ≡ 0
   unfolding orderOf
-  order-least l j g = eqb-true _ 0 (not-false _ (first-before (λ j. not (eqb (given D N f j 0) 0)) 0 (D + 1) j zero-le g (omega arith)))
+  order-least = nonzero-before (D + 1) (λ j. given D N f j 0)
 
 pub low-word : (N d : ℕ) (s : List ℕ) (j t : ℕ) → j < d → lowRows N d s j t ≡ word s (j * N + t)
 low-word N d s j t l = rows-below s N d j t l
@@ -131,16 +136,16 @@ module _ (p D N : ℕ) (f : List ℕ) (prime : Prime p) where
     given-past j t l = rows-past f N (D + 1) j t (omega arith)
 
     abbrev b : ℕ → ℕ → ℕ
-    b = pair-b prime D N d (given D N f) bound (order-there D N f bound) (order-least D N f bound) given-lt given-past
+    b = pair-b prime D N d (given D N f) bound (order-there D N f bound) (order-least D N f) given-lt given-past
 
     abbrev c : ℕ → ℕ → ℕ
-    c = pair-c prime D N d (given D N f) bound (order-there D N f bound) (order-least D N f bound) given-lt given-past
+    c = pair-c prime D N d (given D N f) bound (order-there D N f bound) (order-least D N f) given-lt given-past
 
     solved : (k : ℕ) → IsPair p D k d (given D N f) b c
-    solved k = pair-is prime D N d (given D N f) bound (order-there D N f bound) (order-least D N f bound) given-lt given-past k
+    solved k = pair-is prime D N d (given D N f) bound (order-there D N f bound) (order-least D N f) given-lt given-past k
 
     lt : (j t : ℕ) → (b j t < p) × (c j t < p)
-    lt = pair-lt prime D N d (given D N f) bound (order-there D N f bound) (order-least D N f bound) given-lt given-past
+    lt = pair-lt prime D N d (given D N f) bound (order-there D N f bound) (order-least D N f) given-lt given-past
 
     row : ℕ → ℕ → ℕ → ℕ
     row k j t = choose (ltb t k) (choose (ltb j d) (b j t) (c (j - d) t)) 0
@@ -200,7 +205,7 @@ module _ (p D N : ℕ) (f : List ℕ) (prime : Prime p) where
       pair = record {
         bound = bound;
         there = order-there D N f bound;
-        least = order-least D N f bound;
+        least = order-least D N f;
         first = λ j l. low-word N d s j 0 l ∙ (let z = rowsBelow-at 1 s N d 0 1 (all-at _ e 2) j l 0 zero-le (omega arith) in omega arith);
         height = λ j t l. high-past D N d s j t l;
         unit = λ z. eqb-false (word s (d * N)) 0 (not-true _ (all-at _ e 3)) (first-word ∙ z);

@@ -1,45 +1,32 @@
--- Laws for the checks and the tests: the order as a loop finds it, and what may be continued.
+-- Laws for the checks and the tests: what may be continued.
 --   flat-first, beyond-first    examples where two refusals apply: 11 comes before 14, and 14 before 15
 -- Assumes nothing.
-use mathlib.Core.Path.{_≡_, refl, sym, ap, _∙_}
+use mathlib.Core.Path.{_≡_, refl, sym, _∙_}
 use mathlib.Core.Logic.{⊎-elim}
-use mathlib.Core.Bool.{Bool, true, false, not}
+use mathlib.Core.Bool.{Bool, true, false}
 use mathlib.Core.List.{List, [], _∷_}
-use Prim.Native.Nat.{ℕ, _*_, _≤_, _<_, zero-le}
-use native.Mathlib.Nat.{add-zero}
+use Prim.Native.Nat.{ℕ, _≤_, _<_}
 use native.Mathlib.Omega.{arith}
-use borrow.Author.Tests.{lt-leb, le-leb, eq-eqb, ne-eqb, eqb-false, not-true}
-use lib.Dec.{eqb}
+use borrow.Author.Tests.{lt-leb, le-leb, eq-eqb, ne-eqb}
 use Rattle.algebra.specs.Sums.{sumTo}
-use Rattle.numbers.specs.Words.{word, all, allTo, firstWhere, firstLarge}
+use Rattle.numbers.specs.Words.{all, allTo, firstWhere, firstNonzero, firstLarge}
 use Rattle.numbers.specs.Divisor.{leastDivisor}
 use Rattle.numbers.specs.Refusals.{judge, refusal}
 use Rattle.numbers.specs.declared.refusal.Verdict.the-variants.{Refuse}
-use Rattle.numbers.proofs.WordsLaws.{lt-or-ge, first-is, true-false}
+use Rattle.numbers.proofs.WordsLaws.{lt-or-ge, true-false}
 use Rattle.rows.specs.Rows.{rowsOf, rowsBelow, mul, monic}
-use Rattle.rows.proofs.RowsLaws.{rows-below}
 use Rattle.pair.specs.Pair.{orderOf}
 use Rattle.pair.specs.Test.{productTest, pairTest}
 use Rattle.pair.specs.Paired.{held, pairChecks}
 
--- the row that is not 0 at X = 0, and below which every row is
-pub order-is : (f : List ℕ) (n rows r : ℕ) → r ≤ rows → ((k : ℕ) → k < r → word f (k * n) ≡ 0) → (r < rows → word f (r * n) ≡ 0 → ⊥)
-    → r ≡ orderOf rows (rowsOf f n rows)
-unfolding orderOf
-order-is f n rows r h zeros there =
-    let at : (k : ℕ) → k < rows → rowsOf f n rows k 0 ≡ word f (k * n) = λ k l. rows-below f n rows k 0 l ∙ ap (word f) (add-zero (k * n)) in
-    sym (first-is (λ j. not (eqb (rowsOf f n rows j 0) 0)) 0 rows r zero-le (omega arith)
-    (λ l. ap not (ne-eqb (rowsOf f n rows r 0) 0 (λ e. there (omega arith) (sym (at r (omega arith)) ∙ e))))
-    (λ k _ l e. eqb-false (rowsOf f n rows k 0) 0 (not-true _ e) (at k (omega arith) ∙ zeros k l)))
-
 -- 0 modulo 2, one row of one word, and two terms wanted
 pub flat-first : judge (pairChecks 2 0 1 (0 ∷ []) 0 2 (0 ∷ [])) ≡ Refuse (refusal 11 0)
-unfolding judge leastDivisor firstLarge firstWhere rowsOf orderOf
+unfolding judge leastDivisor firstLarge firstWhere firstNonzero rowsOf orderOf
 flat-first = refl
 
 -- 1 modulo 2, its pair to one term, and none wanted
 pub beyond-first : judge (pairChecks 2 0 1 (1 ∷ []) 1 0 (1 ∷ [])) ≡ Refuse (refusal 14 0)
-unfolding judge leastDivisor firstLarge firstWhere rowsOf orderOf held pairTest productTest rowsBelow allTo all mul monic sumTo
+unfolding judge leastDivisor firstLarge firstWhere firstNonzero rowsOf orderOf held pairTest productTest rowsBelow allTo all mul monic sumTo
 beyond-first = refl
 
 -- what `held` tests

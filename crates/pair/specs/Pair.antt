@@ -8,15 +8,13 @@
 use Prim.Native.Nat.{ℕ, _+_, _-_, _*_, _≤_, _<_}
 use mathlib.Core.Path.{_≡_}
 use mathlib.Core.Logic.{_≢_}
-use mathlib.Core.Bool.{not}
 use mathlib.Core.List.{List}
-use lib.Dec.{eqb}
 use lib.ListN.{drop}
-use Rattle.numbers.specs.Words.{word, firstWhere}
+use Rattle.numbers.specs.Words.{word, firstNonzero}
 use Rattle.rows.specs.Rows.{rowsOf, mul, monic}
 
 unfoldable pub orderOf : ℕ → (ℕ → ℕ → ℕ) → ℕ
-orderOf rows f = firstWhere (λ j. not (eqb (f j 0) 0)) 0 rows
+orderOf rows f = firstNonzero rows (λ j. f j 0)
 
 pub record IsPair (p D k d : ℕ) (f b c : ℕ → ℕ → ℕ) : Type 0 where
   pub bound : d ≤ D

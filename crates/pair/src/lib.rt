@@ -9,6 +9,7 @@ use numbers::limits::MOST_ROWS;
 use numbers::refusal::Answer;
 use numbers::refusal::Verdict;
 use numbers::refusal::refuse;
+use series::kernel::first_nonzero;
 use split::node::split_by;
 ghost use mathlib.Core.Path.{_≡_};
 ghost use Prim.Native.Nat.{ℕ, _+_, _-_, _*_, _≤_, _<_};
@@ -17,7 +18,6 @@ ghost use lib.Dec.{eqb};
 ghost use Rattle.numbers.specs.Refusals.{judge, outcome};
 ghost use Rattle.numbers.specs.Words.{word, choose};
 ghost use Rattle.numbers.specs.internal.Facts.{Decides};
-ghost use Rattle.numbers.specs.Limits.{mostRows, largestWidth};
 ghost use Rattle.rows.specs.Rows.{rowsOf};
 ghost use Rattle.solution.specs.internal.Table.{SplitRoom, SplitBy};
 ghost use Rattle.pair.specs.Pair.{orderOf, PairWords};
@@ -32,17 +32,10 @@ const FEW_WORDS: usize = 512; // to clear the most would take longer than to wor
 
 // The order of f: the first row that is not 0 at X = 0, or the number of rows.
 fn order_of(f: &[u32], n: usize, rows: usize) -> usize
-    requires { ⌜ (length (now f) ≡ rows * n) × (1 ≤ n) × (n ≤ largestWidth) × (rows ≤ mostRows) ⌝ }
+    requires { ⌜ (length (now f) ≡ rows * n) × (1 ≤ n) ⌝ }
     ensures { λ r. ⌜ r ≡ orderOf rows (rowsOf (now (f .entry)) n rows) ⌝ }
 {
-    let mut j = 0;
-    while j < rows {
-        if f[j * n] != 0 {
-            break;
-        }
-        j += 1;
-    }
-    j
+    first_nonzero(f, n, rows)
 }
 
 // The first column to be worked: column 0 is f's own.

@@ -1,5 +1,6 @@
--- What a pass says of two series, refusal 12, a divisor that begins with 0, and the answers that follow.
+-- What a pass says of two series, one check after others, and the answers that follow.
 -- Assumes nothing.
+use mathlib.Core.Bool.{true, false}
 use mathlib.Core.Path.{_≡_, sym, _∙_}
 use mathlib.Core.List.{List, [], _∷_, _++_}
 use Prim.Native.Nat.{ℕ, zero, suc, _≤_, _<_}
@@ -42,16 +43,21 @@ module _ (p N : ℕ) (g h : List ℕ) (room : ℕ) (e : judge (seriesChecks p N 
       → (_≡_ {A = Outcome ℕ} (accepted N) (result (judge (seriesChecks p N g h room)) N)) × (out ≡ written (judge (seriesChecks p N g h room)) (over (F N) old) old)
   series-done F old out w = answer-done F (length g) N N old out e w (series-long .0)
 
--- refusal 12, after checks that pass
-module _ (cs : List Check) (g : List ℕ) (e : judge cs ≡ Pass) where
-  abbrev row : Check
-  row = check 12 (eqb (word g 0) 0) 0
+-- one check more, after checks that pass
+module _ (cs : List Check) (c : Check) (e : judge cs ≡ Pass) where
+  pub last-refused : c .applies ≡ true → judge (cs ++ (c ∷ [])) ≡ Refuse (refusal (c .number) (c .detail))
+  last-refused z = after-pass cs (c ∷ []) e ∙ take-check c [] z
 
+  pub last-passed : c .applies ≡ false → judge (cs ++ (c ∷ [])) ≡ Pass
+  last-passed z = after-pass cs (c ∷ []) e ∙ skip-check c [] z ∙ none-judged
+
+-- refusal 12 of the inverse
+module _ (cs : List Check) (g : List ℕ) (e : judge cs ≡ Pass) where
   pub unit-refused : word g 0 ≡ 0 → judge (cs ++ (check 12 (eqb (word g 0) 0) 0 ∷ [])) ≡ Refuse (refusal 12 0)
-  unit-refused z = after-pass cs (row ∷ []) e ∙ take-check row [] (eq-eqb (word g 0) 0 z)
+  unit-refused z = last-refused cs _ e (eq-eqb (word g 0) 0 z)
 
   pub unit-passed : (word g 0 ≡ 0 → ⊥) → judge (cs ++ (check 12 (eqb (word g 0) 0) 0 ∷ [])) ≡ Pass
-  unit-passed z = after-pass cs (row ∷ []) e ∙ skip-check row [] (ne-eqb (word g 0) 0 z) ∙ none-judged
+  unit-passed z = last-passed cs _ e (ne-eqb (word g 0) 0 z)
 
 -- the series 1 is reduced
 pub one-below : (p : ℕ) → 2 ≤ p → AllBelow p (1 ∷ [])

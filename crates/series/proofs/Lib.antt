@@ -1,3 +1,4 @@
 pub mod SeriesLaws
 pub mod CheckLaws
 pub mod QuotientLaws
+pub mod DividedLaws

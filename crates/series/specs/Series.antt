@@ -1,26 +1,30 @@
 -- Series modulo p: lists of N words, at t the coefficient of X^t.
+--   IsSeries p N s       s is a series of N words below p
 --   seriesChecks ..      the checks of an operation on two series
 --   inverseChecks ..     of the inverse
---   quotientChecks ..    of the quotient
 --   sums p n g h         g + h, word by word
 --   differences p n g h  g − h, word by word
 --   productColumn, product   column t of g · h is the sum over i = 0..t of g_i · h_(t−i)
---   quotientColumn, quotient   column t of f / g is (f_t − the sum over i = 1..t of g_i · h_(t−i)) / g_0, from the columns h before it
--- The inverse of g is the quotient of 1, the series 1, 0, 0, ..
+--   quotientColumn, quotient   where g does not begin with 0: column t of f / g is (f_t − the sum over i = 1..t of g_i · h_(t−i)) / g_0, from the
+--                        columns h before it
+-- The inverse of g is the quotient of 1, the series 1, 0, 0, .. What is divided by a g that may begin with 0 stands in specs/Quotient.
 -- Assumes nothing.
 use Prim.Native.Nat.{ℕ, zero, suc, _+_, _-_, _*_, _%_}
+use mathlib.Core.Path.{_≡_}
+use mathlib.Core.Bool.{false}
 use mathlib.Core.List.{List, [], _∷_, _++_}
 use lib.Dec.{eqb}
+use lib.ListN.{length}
 use Rattle.algebra.specs.Sums.{sumTo}
 use Rattle.numbers.specs.Words.{word, tabulate}
 use Rattle.numbers.specs.Divisor.{inverseOf}
-use Rattle.numbers.specs.Refusals.{Check, check, operationChecks}
+use Rattle.numbers.specs.Refusals.{Check, check, unreduced, operationChecks}
+
+abbrev pub IsSeries : (p N : ℕ) → List ℕ → Type 0
+IsSeries p N s = (length s ≡ N) × (unreduced p s ≡ false)
 
 abbrev pub seriesChecks : (p N : ℕ) (g h : List ℕ) (room : ℕ) → List Check
 seriesChecks p N g h room = operationChecks p N g 1 h 1 1 room
-
-abbrev pub quotientChecks : (p N : ℕ) (f g : List ℕ) (room : ℕ) → List Check
-quotientChecks p N f g room = seriesChecks p N f g room ++ (check 12 (eqb (word g 0) 0) 0 ∷ [])
 
 abbrev pub inverseChecks : (p N : ℕ) (g : List ℕ) (room : ℕ) → List Check
 inverseChecks p N g room = operationChecks p N g 1 [] 0 1 room ++ (check 12 (eqb (word g 0) 0) 0 ∷ [])

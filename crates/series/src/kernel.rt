@@ -1,15 +1,16 @@
 // The loops along contiguous words, with sums in 64 bits and one reduction for each coefficient. These trust their caller: they have a
-// `requires`, and are for the crates of this repository. All are proved for every modulus below 2^24.
+// `requires`, all but `repeat`, and are for the crates of this repository. All are proved for every modulus below 2^24.
 use numbers::kernel::inverse_of;
 ghost use mathlib.Core.Path.{_≡_};
-ghost use Prim.Native.Nat.{ℕ, _≤_, _<_};
+ghost use Prim.Native.Nat.{ℕ, _*_, _≤_, _<_};
 ghost use lib.ListN.{length};
 ghost use Rattle.algebra.specs.Prime.{Prime};
-ghost use Rattle.numbers.specs.Words.{word, over};
+ghost use Rattle.numbers.specs.Words.{word, firstNonzero, tabulate, over};
 ghost use Rattle.numbers.specs.internal.Facts.{AllBelow};
 ghost use Rattle.numbers.specs.internal.Limits.{modulusBound};
 ghost use Rattle.numbers.specs.Limits.{largestWidth};
 ghost use Rattle.series.specs.Series.{sums, differences, product, quotient};
+ghost use Rattle.series.specs.Quotient.{leastPower, quotientWords};
 ghost use Rattle.series.specs.internal.Dot.{dotSum};
 
 // One pass along two rows, the second backwards, not yet reduced: at most 256 products below 2^48.
@@ -24,6 +25,34 @@ pub fn dot(g: &[u32], h: &[u32], k: usize) -> u64
         i += 1;
     }
     sum
+}
+
+// The first i below count with word i · step other than 0, or count.
+pub fn first_nonzero(s: &[u32], step: usize, count: usize) -> usize
+    requires { ⌜ (1 ≤ step) × (count * step ≤ length (now s)) ⌝ }
+    ensures { λ r. ⌜ r ≡ firstNonzero count (λ i. word (now (s .entry)) (i * step)) ⌝ }
+{
+    let mut i = 0;
+    let mut a = 0;
+    while i < count {
+        if s[a] != 0 {
+            break;
+        }
+        i += 1;
+        a += step;
+    }
+    i
+}
+
+// One word, over and over.
+pub fn repeat(x: u32, out: &mut [u32])
+    ensures { λ _. ⌜ now (out .exit) ≡ tabulate (length (now (out .entry))) (λ _. x) ⌝ }
+{
+    let mut i = 0;
+    while i < out.len() {
+        out[i] = x;
+        i += 1;
+    }
 }
 
 // Word t, or 0 past the end.
@@ -94,4 +123,16 @@ pub fn divide(p: u32, f: &[u32], g: &[u32], out: &mut [u32])
         out[t] = ((a + (modulus - sum % modulus)) * inverse % modulus) as u32;
         t += 1;
     }
+}
+
+// f / g, where e is the least power of X in g and f has no lower one: both are divided by X^e first, and 0 stands in the last e columns.
+pub fn divide_from(p: u32, f: &[u32], g: &[u32], e: usize, out: &mut [u32])
+    requires { ⌜ Prime p × (p < modulusBound) × (length (now f) ≡ length (now g)) × (length (now g) ≤ largestWidth) × (length (now g) ≤ length (now out))
+        × AllBelow p (now f) × AllBelow p (now g) × (e ≡ leastPower (now g)) × (e < length (now g)) ⌝ }
+    ensures { λ _. ⌜ now (out .exit) ≡ over (quotientWords p (length (now (g .entry))) (now (f .entry)) (now (g .entry))) (now (out .entry)) ⌝ }
+{
+    let n = g.len();
+    let known = n - e;
+    divide(p, &f[e..], &g[e..], out);
+    repeat(0, &mut out[known..n]);
 }

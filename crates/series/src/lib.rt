@@ -1,5 +1,5 @@
-// Series modulo a prime: N words each, in slices that the caller lends. Every operation answers every input, by the number of words
-// that it writes to the front of `out` or by a refusal, and then `out` is as it was.
+// Series modulo a prime: N words each, in slices that the caller lends. Every operation answers every input: it writes N words to the front of
+// `out` and answers how many of them are known, all N but for the quotient; or it refuses, and then `out` is as it was.
 use numbers::judge::check_operation;
 use numbers::refusal::Answer;
 use numbers::refusal::Verdict;
@@ -9,7 +9,8 @@ ghost use mathlib.Core.List.{[], _∷_};
 ghost use lib.ListN.{length};
 ghost use Rattle.numbers.specs.Words.{over};
 ghost use Rattle.numbers.specs.Refusals.{judge, outcome, result, written};
-ghost use Rattle.series.specs.Series.{seriesChecks, inverseChecks, quotientChecks, sums, differences, product, quotient};
+ghost use Rattle.series.specs.Series.{seriesChecks, inverseChecks, sums, differences, product, quotient};
+ghost use Rattle.series.specs.Quotient.{leastPower, Divided};
 
 pub mod kernel; // the loops, for callers that have judged
 
@@ -52,20 +53,30 @@ pub fn product(p: u32, n: u32, g: &[u32], h: &[u32], out: &mut [u32]) -> Answer
     Answer::Done(n)
 }
 
-// f / g.
+// The least power of X in s, or its length where s is 0.
+fn least_power(s: &[u32]) -> usize
+    ensures { λ r. ⌜ r ≡ leastPower (now (s .entry)) ⌝ }
+{
+    kernel::first_nonzero(s, 1, s.len())
+}
+
+// f / g, where g is not 0 and its least power of X, e, is no higher than f's: both are divided by X^e first. The answer is the number of terms that are
+// then known, N − e; 0 stands after them. The contract allows one outcome only: `divided-one` in proofs/DividedLaws.
 pub fn quotient(p: u32, n: u32, f: &[u32], g: &[u32], out: &mut [u32]) -> Answer
-    ensures answer { λ r. ⌜ outcome r ≡ result (judge (quotientChecks p n (now (f .entry)) (now (g .entry)) (length (now (out .entry))))) n ⌝ }
-    ensures words { λ _. ⌜ now (out .exit) ≡ written (judge (quotientChecks p n (now (f .entry)) (now (g .entry)) (length (now (out .entry)))))
-        (over (quotient p n (now (f .entry)) (now (g .entry))) (now (out .entry))) (now (out .entry)) ⌝ }
+    ensures { λ r. ⌜ Divided p n (now (f .entry)) (now (g .entry)) (now (out .entry)) (outcome r) (now (out .exit)) ⌝ }
 {
     if let Verdict::Refuse(r) = check_operation(p, n, f, 1, g, 1, 1, out.len()) {
         return Answer::Refused(r);
     }
-    if g[0] == 0 {
+    let e = least_power(g);
+    if e == g.len() {
+        return refused(12, 0); // g is 0
+    }
+    if least_power(f) < e {
         return refused(12, 0);
     }
-    kernel::divide(p, f, g, out);
-    Answer::Done(n)
+    kernel::divide_from(p, f, g, e, out);
+    Answer::Done((g.len() - e) as u32)
 }
 
 // 1 / g.

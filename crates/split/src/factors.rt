@@ -1,7 +1,7 @@
 // The factors of a polynomial: its roots are split in two near half the degree, until each stands alone with its power.
 use crate::node::split_node;
 use columns::clear;
-use columns::repeat;
+use series::kernel::repeat;
 use solution::product_of;
 ghost use mathlib.Core.Path.{_≡_};
 ghost use Prim.Native.Nat.{ℕ, _+_, _-_, _*_, _≤_, _<_};

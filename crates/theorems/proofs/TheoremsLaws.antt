@@ -1,24 +1,24 @@
 -- The end theorems, from the laws of the crates.
 -- Assumes nothing.
-use Prim.Native.Nat.{ℕ, zero, suc, _+_, _<_}
+use Prim.Native.Nat.{ℕ, zero, suc, _+_, _-_}
+use native.Mathlib.Nat.{sub-zero}
 use native.Mathlib.Omega.{arith}
 use mathlib.Core.Path.{_≡_, refl, sym, _∙_, ap}
 use mathlib.Core.List.{List, [], _∷_}
-use lib.ListN.{length}
-use lib.Seq.{ext-getD, take-all}
+use lib.Seq.{take-all}
 use borrow.Author.Tests.{eqb-false, leb-false}
 use Rattle.series.proofs.CheckLaws.{one-below}
-use Rattle.algebra.specs.Prime.{Prime}
 use Rattle.algebra.proofs.FpLaws.{p-pos}
 use Rattle.numbers.specs.Words.{word, tabulate}
-use Rattle.numbers.specs.internal.Facts.{AllBelow}
-use Rattle.numbers.specs.Refusals.{operationChecks, inputChecks}
+use Rattle.numbers.specs.Refusals.{judge, operationChecks, inputChecks}
 use Rattle.numbers.specs.One.{TheOne}
-use Rattle.numbers.proofs.WordsLaws.{length-tabulate, word-tabulate}
+use Rattle.numbers.specs.declared.refusal.Verdict.the-variants.{Pass}
+use Rattle.numbers.proofs.WordsLaws.{word-tabulate, tabulate-ext}
 use Rattle.numbers.proofs.RefusalsLaws.{operation-pass, inputs-pass, pass-parts, pass-check, reduced, below-reduced}
-use Rattle.series.specs.Series.{seriesChecks, productColumn, product, quotient}
+use Rattle.series.specs.Series.{IsSeries, inverseChecks, productColumn, product, quotient}
 use Rattle.series.proofs.SeriesLaws.{length-quotient, quotient-below}
 use Rattle.series.proofs.QuotientLaws.{inverse-law, quotient-product, quotient-unique}
+use Rattle.series.proofs.DividedLaws.{unit-least, unit-words, product-least, quotient-pass, dividable-one, divided-one}
 use Rattle.rows.specs.Rows.{unit}
 use Rattle.rows.proofs.ShiftLaws.{row-shift-back, row-shift-product}
 use Rattle.pair.proofs.PairWordsLaws.{pair-test}
@@ -33,7 +33,7 @@ use Rattle.calls.proofs.OneLaws.{run-one, count-largest, replayed-one}
 use Rattle.job.specs.Limits.{jobRoom}
 use Rattle.job.proofs.JobLaws.{narrow-reads}
 use Rattle.listing.proofs.ListingLaws.{one-listing, listed-only, listing-cut}
-use Rattle.theorems.specs.Theorems.{IsSeries, PairTheorems, SheetTheorems, CallTheorems, RowTheorems, Theorems}
+use Rattle.theorems.specs.Theorems.{PairTheorems, SheetTheorems, CallTheorems, RowTheorems, Theorems}
 
 pair-theorems : PairTheorems
 pair-theorems = record {
@@ -66,44 +66,42 @@ call-theorems = record {
   listing-cut = λ job text h x. listing-cut job text jobRoom (omega arith) h x;
 }
 
--- the quotient, where p is a prime, f and g are below p and g is not 0 at X = 0; f is given by its first N words
-module _ {p : ℕ} (prime : Prime p) (N : ℕ) (f g F : List ℕ) (f-below : AllBelow p f) (g-below : AllBelow p g) (unit : word g 0 ≡ 0 → ⊥)
-    (long : length F ≡ N) (same : (t : ℕ) → t < N → word F t ≡ word f t) where
-  the-quotient : TheOne (λ h. IsSeries p N h × (product p N h g ≡ F)) (quotient p N f g)
-  unfolding product
-  the-quotient = record {
-    is = (
-      (length-quotient p N f g, below-reduced p (quotient p N f g) (quotient-below p (p-pos prime) N f g)),
-      ext-getD 0 _ F (length-tabulate N _ ∙ sym long) (λ t l.
-          let u : t < N = omega (arith, length-tabulate N (productColumn p (quotient p N f g) g)) in
-          word-tabulate N _ t u ∙ quotient-product prime f g f-below g-below unit N t u ∙ sym (same t u)),
-    );
-    only = λ h x. quotient-unique prime f g f-below g-below unit N h (x .0 .0) (reduced p h (x .0 .1))
-        (λ t u. sym (word-tabulate N (productColumn p h g) t u) ∙ ap (λ s. word s t) (x .1) ∙ same t u);
-  }
+-- the inverse: the quotient of 1, by a divisor that does not begin with 0
+the-inverse : (p N : ℕ) (g : List ℕ) → judge (inverseChecks p N g N) ≡ Pass → TheOne (λ h. IsSeries p N h × (product p N h g ≡ tabulate N unit)) (quotient p N (1 ∷ []) g)
+unfolding product
+the-inverse p N g e =
+    let m = pass-parts (operationChecks p N g 1 [] 0 1 N) _ e in
+    let o = operation-pass p N g 1 [] 0 1 N (m .0) .inputs in
+    let prime = o .modulus .prime in
+    let one = one-below p (o .modulus .two) in
+    let first = eqb-false (word g 0) 0 (pass-check _ [] (m .1) .0) in
+    record {
+      is = (
+        (length-quotient p N (1 ∷ []) g, below-reduced p _ (quotient-below p (p-pos prime) N (1 ∷ []) g)),
+        tabulate-ext N _ unit (λ t u. quotient-product prime (1 ∷ []) g one (o .f-below) first N t u ∙ sym (one-word t)),
+      );
+      only = λ h x. quotient-unique prime (1 ∷ []) g one (o .f-below) first N h (x .0 .0) (reduced p h (x .0 .1))
+          (λ t u. sym (word-tabulate N (productColumn p h g) t u) ∙ ap (λ s. word s t) (x .1) ∙ word-tabulate N unit t u ∙ one-word t);
+    }
+  where
+    one-word : (t : ℕ) → unit t ≡ word (1 ∷ []) t
+    one-word zero = refl
+    one-word (suc t) = refl
 
 row-theorems : RowTheorems
 row-theorems = record {
   inverse-is = λ p a prime low high. inverse-law prime a low high;
-  quotient-one = λ p N f g e.
-      let m = pass-parts (seriesChecks p N f g N) _ e in
-      let o = operation-pass p N f 1 g 1 1 N (m .0) .inputs in
-      the-quotient (o .modulus .prime) N f g f (o .f-below) (o .g-below) (eqb-false (word g 0) 0 (pass-check _ [] (m .1) .0)) (omega (arith, o .f-long)) (λ t l. refl);
-  inverse-one = λ p N g e.
-      let m = pass-parts (operationChecks p N g 1 [] 0 1 N) _ e in
-      let o = operation-pass p N g 1 [] 0 1 N (m .0) .inputs in
-      the-quotient (o .modulus .prime) N (1 ∷ []) g (tabulate N unit) (one-below p (o .modulus .two)) (o .f-below) (eqb-false (word g 0) 0 (pass-check _ [] (m .1) .0))
-      (length-tabulate N unit) (λ t l. word-tabulate N unit t l ∙ one-word t);
+  quotient-one = divided-one;
+  quotient-words = λ p N f g e. dividable-one (quotient-pass p N f g N e);
+  quotient-whole = λ p N f g ne. (ap (λ (e : ℕ). N - e) (unit-least g ne) ∙ sub-zero N, unit-words p N f g ne);
+  quotient-none = λ p N f g h long low back. let z = product-least p N f g h long back in let y : ⊥ = omega arith in y;
+  inverse-one = the-inverse;
   shift-back = λ p D N f c e.
       let m = pass-parts (inputChecks p N f (D + 1) [] 0 (D + 1)) _ e in
       let o = inputs-pass p N f (D + 1) [] 0 (D + 1) (m .0) in
       row-shift-back p D N f c (leb-false p c (pass-check _ _ (m .1) .0)) (o .f-long) (o .f-below);
   shift-product = row-shift-product;
 }
-  where
-    one-word : (t : ℕ) → unit t ≡ word (1 ∷ []) t
-    one-word zero = refl
-    one-word (suc t) = refl
 
 pub theorems : Theorems
 theorems = (pair-theorems, sheet-theorems, call-theorems, row-theorems)

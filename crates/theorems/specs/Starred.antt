@@ -1,14 +1,16 @@
--- The starred examples of document 01 with the moduli and the wide file of F-2, as one list: closed terms of the definitions that the contracts cite. `starred` in
--- proofs/StarredLaws is its proof: by evaluation, but for the moduli near 2^24, where laws say how little has to be evaluated.
+-- The starred examples of document 01 with the moduli and the wide file of F-2 and the quotients of F-5, as one list: closed terms of the definitions that
+-- the contracts cite. `starred` in proofs/StarredLaws is its proof: by evaluation, but for the moduli near 2^24, where laws say how little has to be
+-- evaluated.
 --   Starred    the list
 -- Assumes nothing.
-use Prim.Native.Nat.{ℕ}
+use Prim.Native.Nat.{ℕ, _-_}
 use mathlib.Core.Path.{_≡_}
 use mathlib.Core.Bool.{true}
 use mathlib.Core.List.{List, [], _∷_, _++_}
 use mathlib.Core.Option.{some}
 use Rattle.numbers.specs.Refusals.{judge, refusal, modulusChecks}
 use Rattle.numbers.specs.declared.refusal.Verdict.the-variants.{Pass, Refuse}
+use Rattle.series.specs.Quotient.{leastPower, quotientChecks, quotientWords}
 use Rattle.pair.specs.Pair.{order}
 use Rattle.pair.specs.Paired.{pairChecks}
 use Rattle.pair.specs.Test.{pairTest}
@@ -115,3 +117,12 @@ Starred =
     × (judge (pairChecks 5 2 4 pair1 0 4 pair1) ≡ Pass)
     × (judge (pairChecks 5 2 4 pair1 0 5 pair1) ≡ Refuse (refusal 14 0))
     × (judge (pairChecks 5 2 4 pair1 0 0 pair1) ≡ Refuse (refusal 14 0))
+    -- p = 7, N = 3: X + X² by X is 1 + X, known to two terms, and zeros by X are zeros; zeros by zeros, X by zeros and 1 by X are 12
+    × (judge (quotientChecks 7 3 (0 ∷ 1 ∷ 1 ∷ []) (0 ∷ 1 ∷ 0 ∷ []) 3) ≡ Pass)
+    × (quotientWords 7 3 (0 ∷ 1 ∷ 1 ∷ []) (0 ∷ 1 ∷ 0 ∷ []) ≡ 1 ∷ 1 ∷ 0 ∷ [])
+    × (3 - leastPower (0 ∷ 1 ∷ 0 ∷ []) ≡ 2)
+    × (judge (quotientChecks 7 3 (0 ∷ 0 ∷ 0 ∷ []) (0 ∷ 1 ∷ 0 ∷ []) 3) ≡ Pass)
+    × (quotientWords 7 3 (0 ∷ 0 ∷ 0 ∷ []) (0 ∷ 1 ∷ 0 ∷ []) ≡ 0 ∷ 0 ∷ 0 ∷ [])
+    × (judge (quotientChecks 7 3 (0 ∷ 0 ∷ 0 ∷ []) (0 ∷ 0 ∷ 0 ∷ []) 3) ≡ Refuse (refusal 12 0))
+    × (judge (quotientChecks 7 3 (0 ∷ 1 ∷ 0 ∷ []) (0 ∷ 0 ∷ 0 ∷ []) 3) ≡ Refuse (refusal 12 0))
+    × (judge (quotientChecks 7 3 (1 ∷ 0 ∷ 0 ∷ []) (0 ∷ 1 ∷ 0 ∷ []) 3) ≡ Refuse (refusal 12 0))

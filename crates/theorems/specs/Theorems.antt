@@ -1,20 +1,20 @@
 -- The end theorems, in a row: what is promised of the calls, each with one plain sentence. `theorems` in proofs/TheoremsLaws proves them all.
---   IsSeries p N s     s is a series of N words below p
 --   PairTheorems, SheetTheorems, CallTheorems, RowTheorems, Theorems   the theorems, and all of them
 -- Assumes nothing.
 use Prim.Native.Nat.{ℕ, _+_, _-_, _*_, _%_, _≤_, _<_}
 use mathlib.Core.Path.{_≡_}
-use mathlib.Core.Logic.{_↔_}
-use mathlib.Core.Bool.{true, false}
+use mathlib.Core.Logic.{_↔_, _≢_}
+use mathlib.Core.Bool.{true}
 use mathlib.Core.List.{List, [], _∷_}
 use lib.ListN.{length, take}
 use Rattle.algebra.specs.Prime.{Prime}
 use Rattle.numbers.specs.Words.{word, tabulate}
 use Rattle.numbers.specs.Divisor.{inverseOf}
-use Rattle.numbers.specs.Refusals.{judge, Outcome, accepted, unreduced}
+use Rattle.numbers.specs.Refusals.{judge, Outcome, accepted}
 use Rattle.numbers.specs.One.{TheOne, One, OneOutcome}
 use Rattle.numbers.specs.declared.refusal.Verdict.the-variants.{Pass}
-use Rattle.series.specs.Series.{inverseChecks, quotientChecks, product, quotient}
+use Rattle.series.specs.Series.{IsSeries, inverseChecks, product, quotient}
+use Rattle.series.specs.Quotient.{leastPower, quotientChecks, IsQuotient, Divided, quotientWords}
 use Rattle.rows.specs.Rows.{shiftChecks, rowProduct, rowShift, unit}
 use Rattle.pair.specs.Pair.{order, PairWords}
 use Rattle.pair.specs.Test.{pairTest}
@@ -28,9 +28,6 @@ use Rattle.calls.specs.Replay.{Replayed}
 use Rattle.job.specs.Limits.{jobRoom}
 use Rattle.job.specs.Job.{place, field}
 use Rattle.listing.specs.Listing.{IsListing, Listed}
-
-abbrev pub IsSeries : (p N : ℕ) → List ℕ → Type 0
-IsSeries p N s = (length s ≡ N) × (unreduced p s ≡ false)
 
 -- The Weierstrass pair.
 pub record PairTheorems : Type 0 where
@@ -79,8 +76,15 @@ pub record CallTheorems : Type 0 where
 pub record RowTheorems : Type 0 where
   -- The inverse modulo a prime is one.
   pub inverse-is : (p a : ℕ) → Prime p → 1 ≤ a → a < p → (a * inverseOf p a % p ≡ 1) × (inverseOf p a < p)
-  -- The quotient is the one series whose product with g is f, and the inverse the one whose product with g is 1.
-  pub quotient-one : (p N : ℕ) (f g : List ℕ) → judge (quotientChecks p N f g N) ≡ Pass → TheOne (λ h. IsSeries p N h × (product p N h g ≡ f)) (quotient p N f g)
+  -- The quotient has exactly one outcome on every input.
+  pub quotient-one : (p N : ℕ) (f g old : List ℕ) → OneOutcome (Divided p N f g old)
+  -- It is had by leaving out the divisor's least power of X, and going column after column.
+  pub quotient-words : (p N : ℕ) (f g : List ℕ) → judge (quotientChecks p N f g N) ≡ Pass → TheOne (IsQuotient p N f g) (quotientWords p N f g)
+  -- By a divisor that does not begin with 0, all N terms are known and the words are those of document 01.
+  pub quotient-whole : (p N : ℕ) (f g : List ℕ) → word g 0 ≢ 0 → (N - leastPower g ≡ N) × (quotientWords p N f g ≡ quotient p N f g)
+  -- A dividend of lower least power is no product with the divisor.
+  pub quotient-none : (p N : ℕ) (f g h : List ℕ) → length g ≡ N → leastPower f < leastPower g → product p N h g ≢ f
+  -- The inverse is the one series whose product with g is 1.
   pub inverse-one : (p N : ℕ) (g : List ℕ) → judge (inverseChecks p N g N) ≡ Pass → TheOne (λ h. IsSeries p N h × (product p N h g ≡ tabulate N unit)) (quotient p N (1 ∷ []) g)
   -- A shift by c is undone by the shift by p − c.
   pub shift-back : (p D N : ℕ) (f : List ℕ) (c : ℕ) → judge (shiftChecks p D N f c ((D + 1) * N)) ≡ Pass → rowShift p D N (rowShift p D N f c) ((p - c) % p) ≡ f

@@ -16,7 +16,7 @@ same-length : tie.Need-same-length
 same-length c = search needs
 
 returns : tie.Need-returns
-returns c = (c .pack .ensures ∙ ap packed (c .before .before .before .quotient .ensures .0), c .before .before .before .quotient .ensures .1)
+returns c = (c .pack .ensures ∙ ap packed (c .before .before .before .quotient .ensures .answers), c .before .before .before .quotient .ensures .leaves)
 
 pub bk-series-quotient-spec : {M : Type 1} → statement M
 bk-series-quotient-spec = tie.close (tie.spec quotient-requires pack-requires same-length returns)

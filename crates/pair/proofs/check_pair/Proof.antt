@@ -56,7 +56,7 @@ operation : (b : tie.After-enum-told2) → let a = b .before .before .before .be
 operation b = operation-pass _ _ _ _ _ _ _ _ (passed b)
 
 order-of-requires : tie.Need-order-of-requires
-order-of-requires c κs = let g = operation c .inputs in (g .f-long, g .width-low, g .width-high, g .f-high)
+order-of-requires c κs = let g = operation c .inputs in (g .f-long, g .width-low)
 
 refuse-requires : tie.Need-refuse-requires
 refuse-requires c κs = search needs

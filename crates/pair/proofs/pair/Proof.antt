@@ -40,7 +40,7 @@ add-order-of : tie.Need-add-order-of
 add-order-of c = search needs
 
 order-of-requires : tie.Need-order-of-requires
-order-of-requires c κs = let g = operation-of (input c) .inputs in (g .f-long, g .width-low, g .width-high, g .high)
+order-of-requires c κs = let g = operation-of (input c) .inputs in (g .f-long, g .width-low)
 
 add-end : tie.Need-add-end
 add-end c = search needs

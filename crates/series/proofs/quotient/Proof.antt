@@ -1,23 +1,21 @@
--- `series::quotient` meets its contract: what the checks let pass is what the kernel requires.
+-- `series::quotient` meets its contract: at each `return` the tests that led there say which check it is.
 -- Assumes nothing.
-use mathlib.Core.Path.{_≡_, sym, _∙_}
+use mathlib.Core.Path.{_≡_, refl, sym, ap, ap₂, _∙_}
+use Prim.Native.Nat.{ℕ, _-_, _<_}
 use native.Mathlib.Omega.{arith}
 use lib.ListN.{length}
+use Rattle.numbers.specs.Words.{word, over}
 use Rattle.numbers.specs.Refusals.{judge}
 use Rattle.numbers.specs.declared.refusal.Verdict.the-variants.{Pass}
-use Rattle.numbers.proofs.RefusalsLaws.{Operation, operation-pass, answer-refused, answer-done}
-use Rattle.series.specs.Series.{seriesChecks, quotient}
-use Rattle.series.proofs.CheckLaws.{answer-told, after-told, unit-refused, unit-passed}
+use Rattle.numbers.proofs.WordsLaws.{nonzero-le}
+use Rattle.numbers.proofs.RefusalsLaws.{Operation, operation-pass}
+use Rattle.series.specs.Series.{seriesChecks}
+use Rattle.series.specs.Quotient.{leastPower, quotientWords}
+use Rattle.series.proofs.CheckLaws.{after-told}
+use Rattle.series.proofs.DividedLaws.{zero-refused, lower-refused, common-passed, divided-refused, divided-done}
 use borrow.Author.Needs.{needs}
 use Rattle.series.proofs.quotient.Statement.{statement}
 use Rattle.series.proofs.quotient.Tie as tie
-
--- where checks 1 to 10 have passed
-passed : (b : tie.After-enum-told) → let a = b .before .before .before .before .before .before .args in judge (seriesChecks (a .p) (a .n) (a .f .now) (a .g .now) (length (a .out .now))) ≡ Pass
-passed b = sym (b .before .before .check-operation .ensures) ∙ b .enum-told .given .1
-
-facts : (b : tie.After-enum-told) → let a = b .before .before .before .before .before .before .args in Operation (a .p) (a .n) (a .f .now) 1 (a .g .now) 1 1 (length (a .out .now))
-facts b = operation-pass _ _ _ _ _ _ _ _ (passed b)
 
 check-operation-requires : tie.Need-check-operation-requires
 check-operation-requires c κs = search needs
@@ -28,13 +26,27 @@ enum-known-r c = search needs
 returns : tie.Need-returns
 returns c =
     let a = c .before .before .before .before .before .before .before .args in
-    answer-refused _ _ _ _ (after-told (seriesChecks (a .p) (a .n) (a .f .now) (a .g .now) (length (a .out .now))) _ _ _ (c .before .before .before .check-operation .ensures) (c .before .r .given .1))
+    divided-refused _ _ _ _ _ _ _ refl (after-told (seriesChecks (a .p) (a .n) (a .f .now) (a .g .now) (length (a .out .now))) _ _ _ (c .before .before .before .check-operation .ensures) (c .before .r .given .1))
+
+-- where checks 1 to 10 have passed
+passed : (b : tie.After-enum-told) → let a = b .before .before .before .before .before .before .args in judge (seriesChecks (a .p) (a .n) (a .f .now) (a .g .now) (length (a .out .now))) ≡ Pass
+passed b = sym (b .before .before .check-operation .ensures) ∙ b .enum-told .given .1
+
+operation : (b : tie.After-enum-told) → let a = b .before .before .before .before .before .before .args in Operation (a .p) (a .n) (a .f .now) 1 (a .g .now) 1 1 (length (a .out .now))
+operation b = operation-pass _ _ _ _ _ _ _ _ (passed b)
+
+-- where the divisor is not 0
+there : (b : tie.Else1) → let a = b .before .before .before .before .before .before .before .before .args in leastPower (a .g .now) < a .n
+there b =
+    let a = b .before .before .before .before .before .before .before .before .args in
+    let o = operation (b .before .before) in
+    omega (arith, o .inputs .g-long, b .before .least-power .ensures, nonzero-le (length (a .g .now)) (word (a .g .now)), b .if1 .left)
 
 enum-told : tie.Need-enum-told
 enum-told c = search needs
 
-shared-slice-read-if1 : tie.Need-shared-slice-read-if1
-shared-slice-read-if1 c = let o = facts (c .before) in omega arith
+least-power-requires : tie.Need-least-power-requires
+least-power-requires c κs = search needs
 
 refused-requires : tie.Need-refused-requires
 refused-requires c κs = search needs
@@ -42,21 +54,48 @@ refused-requires c κs = search needs
 returns-2 : tie.Need-returns-2
 returns-2 c =
     let a = c .before .before .before .before .before .before .before .before .before .args in
-    answer-told _ _ _ _ _ (c .refused .ensures) (unit-refused _ (a .g .now) (passed (c .before .before .before)) (c .before .if1 .taken))
+    let o = operation (c .before .before .before) .inputs in
+    divided-refused _ _ _ _ _ _ _ (c .refused .ensures)
+    (zero-refused (a .p) (a .n) (a .f .now) (a .g .now) (length (a .out .now)) (passed (c .before .before .before)) (omega (arith, o .g-long, c .before .before .least-power .ensures, c .before .if1 .taken)))
 
-divide-requires : tie.Need-divide-requires
-divide-requires c κs =
-    let o = facts (c .before .before .before) in
-    (o .inputs .modulus .prime, o .inputs .modulus .small, omega arith, omega arith, omega arith, o .inputs .f-below, o .inputs .g-below, omega arith)
+least-power-requires-2 : tie.Need-least-power-requires-2
+least-power-requires-2 c κs = search needs
+
+refused-requires-2 : tie.Need-refused-requires-2
+refused-requires-2 c κs = search needs
+
+returns-3 : tie.Need-returns-3
+returns-3 c =
+    let a = c .before .before .before .before .before .before .before .before .before .before .before .args in
+    divided-refused _ _ _ _ _ _ _ (c .refused2 .ensures)
+    (lower-refused (a .p) (a .n) (a .f .now) (a .g .now) (length (a .out .now)) (passed (c .before .before .before .before .before)) (there (c .before .before .before)) (omega (arith, c .before .before .before .before .least-power .ensures, c .before .before .least-power2 .ensures, c .before .if2 .taken)))
+
+divide-from-requires : tie.Need-divide-from-requires
+divide-from-requires c κs =
+    let o = operation (c .before .before .before .before .before) in
+    let i = o .inputs in
+    let e = c .before .before .before .before .least-power .ensures in
+    (i .modulus .prime, i .modulus .small, omega arith, omega arith, omega arith, i .f-below, i .g-below, e, omega (arith, there (c .before .before .before)))
+
+sub-t14 : tie.Need-sub-t14
+sub-t14 c = let o = operation (c .before .before .before .before .before .before .before .before) .inputs in omega (arith, o .g-long, there (c .before .before .before .before .before .before), c .before .before .before .before .before .before .before .least-power .ensures)
+
+cast-t15 : tie.Need-cast-t15
+cast-t15 c = let o = operation (c .before .before .before .before .before .before .before .before) .inputs in omega (arith, o .g-long, o .width-high)
 
 same-length : tie.Need-same-length
 same-length c = search needs
 
-returns-3 : tie.Need-returns-3
-returns-3 c =
-    let a = c .before .before .before .before .before .before .before .before .before .before .before .before .args in
-    let o = facts (c .before .before .before .before .before .before) in
-    answer-done (λ k. quotient (a .p) k (a .f .now) (a .g .now)) _ _ _ _ _ (unit-passed _ (a .g .now) (passed (c .before .before .before .before .before .before)) (c .before .before .before .before .if1 .left)) (c .before .before .divide .ensures) (omega arith)
+returns-4 : tie.Need-returns-4
+returns-4 c =
+    let a = c .before .before .before .before .before .before .before .before .before .before .before .before .before .before .args in
+    let b = c .before .before .before .before .before .before .before .before in
+    let n : length (a .g .now) ≡ a .n = let l = operation b .inputs .g-long in omega arith in
+    let e = c .before .before .before .before .before .before .before .least-power .ensures in
+    let f = c .before .before .before .before .before .least-power2 .ensures in
+    divided-done (a .p) (a .n) (a .f .now) (a .g .now) (a .out .now) _ _
+    (common-passed (a .p) (a .n) (a .f .now) (a .g .now) (length (a .out .now)) (passed b) (there (c .before .before .before .before .before .before)) (omega (arith, e, f, c .before .before .before .before .if2 .left)))
+    (ap₂ _-_ n e) (c .before .before .divide-from .ensures ∙ ap (λ (k : ℕ). over (quotientWords (a .p) k (a .f .now) (a .g .now)) (a .out .now)) n)
 
 pub quotient-spec : {M : Type 1} → statement M
 quotient-spec =
@@ -66,9 +105,14 @@ quotient-spec =
     enum-known-r
     returns
     enum-told
-    shared-slice-read-if1
+    least-power-requires
     refused-requires
     returns-2
-    divide-requires
+    least-power-requires-2
+    refused-requires-2
+    returns-3
+    divide-from-requires
+    sub-t14
+    cast-t15
     same-length
-    returns-3)
+    returns-4)

@@ -1,4 +1,4 @@
--- `columns::repeat` meets its contract. The loop's invariant: the words before i are written.
+-- `series::kernel::repeat` meets its contract. The loop's invariant: the words before i are written.
 -- Assumes nothing.
 use mathlib.Core.Path.{_≡_, refl, _∙_}
 use Prim.Native.Nat.{_≤_, _-_}
@@ -7,8 +7,8 @@ use lib.ListN.{length}
 use Rattle.numbers.specs.Words.{tabulate}
 use Rattle.numbers.proofs.WordsLaws.{length-tabulate, over-whole, Writing, writing-none, writing-next, writing-all}
 use borrow.Author.Needs.{needs}
-use Rattle.columns.proofs.repeat.Statement.{statement}
-use Rattle.columns.proofs.repeat.Tie as tie
+use Rattle.series.proofs.kernel.repeat.Statement.{statement}
+use Rattle.series.proofs.kernel.repeat.Tie as tie
 
 abbrev Inv-loop : tie.InvT-loop
 Inv-loop x out₀ i₀ out i = (i ≤ length out₀) × (length out ≡ length out₀) × Writing (tabulate i (λ _. x)) out₀ out
