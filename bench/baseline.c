@@ -113,6 +113,24 @@ uint64_t base_series_inverse(uint32_t p, uint32_t n, const uint32_t *g, size_t g
     return n;
 }
 
+/* The least power of X; n where all words are 0. */
+static uint32_t least_power(const uint32_t *s, uint32_t n) {
+    uint32_t e = 0;
+    while (e < n && s[e] == 0) e++;
+    return e;
+}
+
+uint64_t base_series_quotient(uint32_t p, uint32_t n, const uint32_t *f, size_t f_count, const uint32_t *g, size_t g_count, uint32_t *out, size_t out_count) {
+    uint64_t r = check_series(p, n, f, f_count, g, g_count, out_count);
+    if (r) return r;
+    uint32_t e = least_power(g, n), known = n - e;
+    if (e == n || least_power(f, n) < e) return refuse(12, 0);
+    uint64_t inverse = inverse_of(p, g[e]);
+    for (uint32_t t = 0; t < known; t++) out[t] = (uint32_t)((f[e + t] + p - dot(g + e + 1, out, t) % p) * inverse % p);
+    memset(out + known, 0, e * sizeof *out);
+    return known;
+}
+
 /* --- rows --- */
 
 /* Row j of f * g: the products of row i of f and row j - i of g, columns skip..skip + count - 1 of each, as one sum. */

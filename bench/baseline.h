@@ -10,6 +10,7 @@ uint64_t base_sum(uint32_t p, uint32_t value, uint32_t other);
 uint64_t base_sum_by_every_number(uint32_t p, uint32_t value, uint32_t other);
 uint64_t base_series_product(uint32_t p, uint32_t n, const uint32_t *g, size_t g_count, const uint32_t *h, size_t h_count, uint32_t *out, size_t out_count);
 uint64_t base_series_inverse(uint32_t p, uint32_t n, const uint32_t *g, size_t g_count, uint32_t *out, size_t out_count);
+uint64_t base_series_quotient(uint32_t p, uint32_t n, const uint32_t *f, size_t f_count, const uint32_t *g, size_t g_count, uint32_t *out, size_t out_count);
 uint64_t base_pair(uint32_t p, uint32_t d, uint32_t n, const uint32_t *f, size_t f_count, uint32_t h, uint32_t w, uint32_t *out, size_t out_count);
 /* Writes a sheet with one term, and answers its number of words. It judges nothing. */
 uint64_t base_sheet_open(uint32_t p, uint32_t d, uint32_t n, const uint32_t *f, const uint32_t *roots, const uint32_t *powers, uint32_t count, uint32_t *sheet);

@@ -69,6 +69,14 @@ static void series_input(const struct benchmark *b) {
     words[0] = words[1] = n;
 }
 
+/* Both with X^(n/2) in common. */
+static void common_input(const struct benchmark *b) {
+    series_input(b);
+    memset(g, 0, n / 2 * sizeof *g);
+    memset(h, 0, n / 2 * sizeof *h);
+    g[n / 2] = 1 + random_word() % (p - 1);
+}
+
 static uint32_t terms_at(enum start start) { return start == NOTHING ? 0 : start == ONE_TERM ? 1 : start == HALF ? n / 2 : n; }
 
 static uint32_t degree = D, order = ORDER; /* of the polynomial whose pair is wanted */
@@ -134,6 +142,10 @@ static uint64_t inverse(int side) {
     return (side ? base_series_inverse : bk_series_inverse)(p, n, g, n, out[side], n);
 }
 
+static uint64_t quotient(int side) {
+    return (side ? base_series_quotient : bk_series_quotient)(p, n, h, n, g, n, out[side], n);
+}
+
 static uint64_t pair(int side) { return pair_to(side, NOTHING, FULL, out[side]); }
 
 static uint64_t second_half(int side) { return pair_to(side, HALF, FULL, out[side]); }
@@ -166,6 +178,8 @@ static const struct benchmark JUDGING = {"sum of two numbers", no_input, sum, no
 static const struct benchmark BENCHMARKS[] = {
     {"series product", series_input, product, same_words, 0, NOTHING},
     {"series inverse", series_input, inverse, same_words, 0, NOTHING},
+    {"series quotient", series_input, quotient, same_words, 0, NOTHING},
+    {"series quotient, X^(N/2) in common", common_input, quotient, same_words, 0, NOTHING},
     {"pair, D = 32, d = 16", pair_input, pair, same_words, 0, NOTHING},
     {"pair continued N/2 to N, D = 32, d = 16", pair_input, second_half, same_words, 0, HALF},
     {"extend 1 to N, 32 simple roots", sheet_input, extend, same_sheet, 32, ONE_TERM},
@@ -214,7 +228,7 @@ static int repeats_for(const struct benchmark *b) {
     return one < SAMPLE_SECONDS ? (int)(SAMPLE_SECONDS / one) + 1 : 1;
 }
 
-/* No answer is 0 here: test says yes, the others answer N or the order. */
+/* No answer is 0 here: test says yes, the others answer N, the order, or the terms known. */
 static void check_same(const struct benchmark *b) {
     stop_unless(answers[0] == answers[1] && answers[0] && !bk_refused(answers[0]), b, "the answers differ, or are a refusal or no");
     stop_unless(b->same(), b, "the results differ");

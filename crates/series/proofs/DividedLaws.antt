@@ -3,9 +3,9 @@
 --   product-low, product-high   a product with g is 0 below g's least power of X, and from there on the product with g without its first zeros
 --   product-least               so no product with g has a lower power of X than g
 --   the-quotient                the conditions have one solution, quotientWords
---   unit-words                  where g does not begin with 0 these are the words of `quotient`
+--   unit-words, unit-checks     where g does not begin with 0 these are the words of `quotient`, and 12 is not given
 --   part-unit, words-written    how the code gets there
---   zero-refused, lower-refused, common-passed, quotient-pass   refusal 12, and what a pass says
+--   zero-refused, lower-refused, common-passed, passed-one   refusal 12, and what passes it
 --   divided-one                 every call has one outcome
 -- Assumes nothing.
 use Prim.Native.Nat.{ℕ, _+_, _-_, _*_, _%_, _≤_, _<_}
@@ -14,7 +14,7 @@ use native.Mathlib.Omega.{arith}
 use mathlib.Core.Path.{_≡_, refl, sym, ap, ap₂, _∙_}
 use mathlib.Core.Logic.{⊎-elim}
 use mathlib.Core.Bool.{Bool, true, false, not, _&&_}
-use mathlib.Core.List.{List, [], _++_, append-nil}
+use mathlib.Core.List.{List, [], _∷_, _++_, append-nil}
 use borrow.Author.Tests.{lt-ltb, le-ltb, ltb-true, le-leb, lt-leb, leb-true}
 use lib.Dec.{leb, ltb}
 use lib.ListN.{length, take, drop, length-append, length-drop, List·getD-append, List·getD-eq-default}
@@ -32,7 +32,7 @@ use Rattle.numbers.specs.declared.refusal.Verdict.the-variants.{Pass, Refuse}
 use Rattle.numbers.specs.declared.refusal.Answer.{Answer}
 use Rattle.numbers.specs.declared.refusal.Answer.the-variants.{Refused}
 use Rattle.numbers.proofs.WordsLaws.{lt-or-ge, true-false, from, from-is, length-from, length-over, writing-part, nonzero-is, nonzero-le, nonzero-there, nonzero-before, zeros-nonzero, length-tabulate, word-tabulate}
-use Rattle.numbers.proofs.RefusalsLaws.{leave-refused, leave-done, Operation, operation-pass, pass-parts, pass-check, reduced, below-reduced}
+use Rattle.numbers.proofs.RefusalsLaws.{after-same, skip-check, leave-refused, leave-done, operation-pass, pass-parts, pass-check, reduced, below-reduced}
 use Rattle.numbers.proofs.OneLaws.{verdict-one}
 use Rattle.series.specs.Series.{seriesChecks, productColumn, product, quotient}
 use Rattle.series.specs.Quotient.{leastPower, quotientChecks, IsQuotient, QuotientDone, Divided, quotientWords}
@@ -199,52 +199,49 @@ module _ (p : ℕ) (f g old : List ℕ) (e : ℕ) (least : e ≡ leastPower g) (
       writing-part divided ys old out (n - e) (n - (n - e)) (record { is = is; long = long }) l (ap length z ∙ length-tabulate e _ ∙ sym q) (omega arith) .is
       ∙ ap (λ (s : List ℕ). over s old) (ap (λ (s : List ℕ). divided ++ s) z ∙ words-are)
 
+abbrev row : (N : ℕ) (f g : List ℕ) → Check
+row N f g = check 12 (not (ltb (leastPower g) N && leb (leastPower g) (leastPower f))) 0
+
+skipped : (N : ℕ) (f g : List ℕ) → leastPower g < N → leastPower g ≤ leastPower f → row N f g .applies ≡ false
+skipped N f g there l = rw (lt-ltb (leastPower g) N there, le-leb (leastPower g) (leastPower f) l)
+
 -- refusal 12, after checks 1 to 10
 module _ (p N : ℕ) (f g : List ℕ) (room : ℕ) (e : judge (seriesChecks p N f g room) ≡ Pass) where
-  abbrev row : Check
-  row = check 12 (not (ltb (leastPower g) N && leb (leastPower g) (leastPower f))) 0
-
   pub zero-refused : N ≤ leastPower g → judge (quotientChecks p N f g room) ≡ Refuse (refusal 12 0)
-  zero-refused l = last-refused _ row e (rw (le-ltb (leastPower g) N l))
+  zero-refused l = last-refused _ (row N f g) e (rw (le-ltb (leastPower g) N l))
 
   pub lower-refused : leastPower g < N → leastPower f < leastPower g → judge (quotientChecks p N f g room) ≡ Refuse (refusal 12 0)
-  lower-refused there l = last-refused _ row e (rw (lt-ltb (leastPower g) N there, lt-leb (leastPower g) (leastPower f) l))
+  lower-refused there l = last-refused _ (row N f g) e (rw (lt-ltb (leastPower g) N there, lt-leb (leastPower g) (leastPower f) l))
 
   pub common-passed : leastPower g < N → leastPower g ≤ leastPower f → judge (quotientChecks p N f g room) ≡ Pass
-  common-passed there l = last-passed _ row e (rw (lt-ltb (leastPower g) N there, le-leb (leastPower g) (leastPower f) l))
+  common-passed there l = last-passed _ (row N f g) e (skipped N f g there l)
+
+-- a divisor that does not begin with 0 is never refused by it
+pub unit-checks : (p N : ℕ) (f g : List ℕ) (room : ℕ) → 1 ≤ N → (word g 0 ≡ 0 → ⊥) → judge (quotientChecks p N f g room) ≡ judge (seriesChecks p N f g room)
+unit-checks p N f g room one ne =
+    let e = unit-least g ne in
+    after-same (seriesChecks p N f g room) (row N f g ∷ []) [] (skip-check (row N f g) [] (skipped N f g (omega arith) (omega arith)))
+    ∙ ap judge (append-nil (seriesChecks p N f g room))
 
 both : (a b : Bool) → not (a && b) ≡ false → (a ≡ true) × (b ≡ true)
 both true true e = (refl, refl)
 both true false e = true-false e
 both false b e = true-false e
 
--- what a pass says
-pub record Dividable (p N : ℕ) (f g : List ℕ) (room : ℕ) : Type 0 where
-  pub operation : Operation p N f 1 g 1 1 room
-  pub there : leastPower g < N
-  pub common : leastPower g ≤ leastPower f
-
-pub quotient-pass : (p N : ℕ) (f g : List ℕ) (room : ℕ) → judge (quotientChecks p N f g room) ≡ Pass → Dividable p N f g room
-quotient-pass p N f g room e =
+-- what passes has exactly one quotient
+pub passed-one : (p N : ℕ) (f g : List ℕ) (room : ℕ) → judge (quotientChecks p N f g room) ≡ Pass → TheOne (IsQuotient p N f g) (quotientWords p N f g)
+passed-one p N f g room e =
     let m = pass-parts (seriesChecks p N f g room) _ e in
-    let b = both _ _ (pass-check _ [] (m .1) .0) in
-    record {
-      operation = operation-pass p N f 1 g 1 1 room (m .0);
-      there = ltb-true (leastPower g) N (b .0);
-      common = leb-true (leastPower g) (leastPower f) (b .1);
-    }
-
-pub dividable-one : {p N : ℕ} {f g : List ℕ} {room : ℕ} → Dividable p N f g room → TheOne (IsQuotient p N f g) (quotientWords p N f g)
-dividable-one {p} {N} {f} {g} d =
-    let o = d .operation .inputs in
-    the-quotient (o .modulus .prime) N f g (omega (arith, o .f-long)) (omega (arith, o .g-long)) (o .f-below) (o .g-below) (d .there) (d .common)
+    let o = operation-pass p N f 1 g 1 1 room (m .0) .inputs in
+    let b = both _ _ (pass-check (row N f g) [] (m .1) .0) in
+    the-quotient (o .modulus .prime) N f g (omega (arith, o .f-long)) (omega (arith, o .g-long)) (o .f-below) (o .g-below) (ltb-true _ N (b .0)) (leb-true _ _ (b .1))
 
 pub divided-one : (p N : ℕ) (f g old : List ℕ) → OneOutcome (Divided p N f g old)
 divided-one p N f g old =
     verdict-one (Divided p N f g old) (judge (quotientChecks p N f g (length old))) (N - leastPower g) (QuotientDone p N f g old) old
     (λ a new. (λ x. (x .answers, x .leaves), λ e. record { answers = e .0; leaves = e .1 }))
     (λ e.
-    let one = dividable-one (quotient-pass p N f g (length old) e) in (
+    let one = passed-one p N f g (length old) e in (
       over (quotientWords p N f g) old,
       record {
         is = (quotientWords p N f g, one .is, refl);
@@ -260,6 +257,6 @@ module _ (p N : ℕ) (f g old : List ℕ) where
   pub divided-done : (k : ℕ) (new : List ℕ) → judge (quotientChecks p N f g (length old)) ≡ Pass → k ≡ N - leastPower g → new ≡ over (quotientWords p N f g) old
       → Divided p N f g old (accepted k) new
   divided-done k new e q w =
-      let one = dividable-one (quotient-pass p N f g (length old) e) in
+      let one = passed-one p N f g (length old) e in
       let x = leave-done k (N - leastPower g) (QuotientDone p N f g old new) old new e q (quotientWords p N f g, one .is, w) in
       record { answers = x .0; leaves = x .1 }

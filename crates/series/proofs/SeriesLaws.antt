@@ -7,8 +7,8 @@ use Prim.Native.Nat.{ℕ, zero, suc, _+_, _-_, _*_, _%_, _≤_, _<_}
 use native.Mathlib.Nat.{eq-or-lt-of-le, mod-lt, mul-le-mul}
 use native.Mathlib.Numerals.{add-one}
 use native.Mathlib.Omega.{arith}
-use lib.ListN.{length, take, drop, set, length-append, length-drop, List·getD-append, List·getD-eq-default}
-use lib.Seq.{getD-at, getD-drop, take-all}
+use lib.ListN.{length, take, set, length-append, List·getD-append, List·getD-eq-default}
+use lib.Seq.{getD-at, getD-drop}
 use Rattle.algebra.specs.Sums.{sumTo}
 use Rattle.algebra.proofs.SumsLaws.{sumTo-suc, sumTo-ext, sumTo-bound}
 use Rattle.numbers.specs.Words.{word}
@@ -50,7 +50,7 @@ unfolding dotSum productColumn
 dot-column p g h t =
     ap (λ (x : ℕ). x % p) (sumTo-ext (t + 1) (λ i l. ap (λ (j : ℕ). word g i * word h j) (let e : t + 1 - (i + 1) ≡ t - i = omega arith in e)))
 
--- a pass along the from of 1 g is the sum of the quotient's column
+-- a pass along g from word 1 on is the sum of the quotient's column
 pub dot-rest : (g h : List ℕ) (t : ℕ) → dotSum (from g 1) h t ≡ sumTo t (λ i. word g (i + 1) * word h (t - (i + 1)))
 unfolding dotSum
 dot-rest g h t =

@@ -2,7 +2,7 @@
 // `requires`, all but `repeat`, and are for the crates of this repository. All are proved for every modulus below 2^24.
 use numbers::kernel::inverse_of;
 ghost use mathlib.Core.Path.{_≡_};
-ghost use Prim.Native.Nat.{ℕ, _*_, _≤_, _<_};
+ghost use Prim.Native.Nat.{_*_, _≤_, _<_};
 ghost use lib.ListN.{length};
 ghost use Rattle.algebra.specs.Prime.{Prime};
 ghost use Rattle.numbers.specs.Words.{word, firstNonzero, tabulate, over};

@@ -18,7 +18,7 @@ use Rattle.numbers.proofs.RefusalsLaws.{operation-pass, inputs-pass, pass-parts
 use Rattle.series.specs.Series.{IsSeries, inverseChecks, productColumn, product, quotient}
 use Rattle.series.proofs.SeriesLaws.{length-quotient, quotient-below}
 use Rattle.series.proofs.QuotientLaws.{inverse-law, quotient-product, quotient-unique}
-use Rattle.series.proofs.DividedLaws.{unit-least, unit-words, product-least, quotient-pass, dividable-one, divided-one}
+use Rattle.series.proofs.DividedLaws.{unit-least, unit-words, unit-checks, product-least, passed-one, divided-one}
 use Rattle.rows.specs.Rows.{unit}
 use Rattle.rows.proofs.ShiftLaws.{row-shift-back, row-shift-product}
 use Rattle.pair.proofs.PairWordsLaws.{pair-test}
@@ -92,8 +92,8 @@ row-theorems : RowTheorems
 row-theorems = record {
   inverse-is = λ p a prime low high. inverse-law prime a low high;
   quotient-one = divided-one;
-  quotient-words = λ p N f g e. dividable-one (quotient-pass p N f g N e);
-  quotient-whole = λ p N f g ne. (ap (λ (e : ℕ). N - e) (unit-least g ne) ∙ sub-zero N, unit-words p N f g ne);
+  quotient-words = λ p N f g e. passed-one p N f g N e;
+  quotient-whole = λ p N f g room one ne. (unit-checks p N f g room one ne, ap (λ (e : ℕ). N - e) (unit-least g ne) ∙ sub-zero N, unit-words p N f g ne);
   quotient-none = λ p N f g h long low back. let z = product-least p N f g h long back in let y : ⊥ = omega arith in y;
   inverse-one = the-inverse;
   shift-back = λ p D N f c e.

@@ -13,7 +13,7 @@ use Rattle.numbers.specs.Divisor.{inverseOf}
 use Rattle.numbers.specs.Refusals.{judge, Outcome, accepted}
 use Rattle.numbers.specs.One.{TheOne, One, OneOutcome}
 use Rattle.numbers.specs.declared.refusal.Verdict.the-variants.{Pass}
-use Rattle.series.specs.Series.{IsSeries, inverseChecks, product, quotient}
+use Rattle.series.specs.Series.{IsSeries, seriesChecks, inverseChecks, product, quotient}
 use Rattle.series.specs.Quotient.{leastPower, quotientChecks, IsQuotient, Divided, quotientWords}
 use Rattle.rows.specs.Rows.{shiftChecks, rowProduct, rowShift, unit}
 use Rattle.pair.specs.Pair.{order, PairWords}
@@ -80,8 +80,9 @@ pub record RowTheorems : Type 0 where
   pub quotient-one : (p N : ℕ) (f g old : List ℕ) → OneOutcome (Divided p N f g old)
   -- It is had by leaving out the divisor's least power of X, and going column after column.
   pub quotient-words : (p N : ℕ) (f g : List ℕ) → judge (quotientChecks p N f g N) ≡ Pass → TheOne (IsQuotient p N f g) (quotientWords p N f g)
-  -- By a divisor that does not begin with 0, all N terms are known and the words are those of document 01.
-  pub quotient-whole : (p N : ℕ) (f g : List ℕ) → word g 0 ≢ 0 → (N - leastPower g ≡ N) × (quotientWords p N f g ≡ quotient p N f g)
+  -- By a divisor that does not begin with 0 all is as in document 01: no check is added, all N terms are known, and the words are those of the recurrence.
+  pub quotient-whole : (p N : ℕ) (f g : List ℕ) (room : ℕ) → 1 ≤ N → word g 0 ≢ 0
+      → (judge (quotientChecks p N f g room) ≡ judge (seriesChecks p N f g room)) × (N - leastPower g ≡ N) × (quotientWords p N f g ≡ quotient p N f g)
   -- A dividend of lower least power is no product with the divisor.
   pub quotient-none : (p N : ℕ) (f g h : List ℕ) → length g ≡ N → leastPower f < leastPower g → product p N h g ≢ f
   -- The inverse is the one series whose product with g is 1.
