@@ -34,9 +34,9 @@ pub fn product(p: u32, n: u32, g: &[u32], h: &[u32], out: &mut [u32]) -> Answer 
     answer(unsafe { bk_series_product(p, n, g.as_ptr(), g.len(), h.as_ptr(), h.len(), out.as_mut_ptr(), out.len()) })
 }
 
-/// g / h, where h is not 0 and its least power of X, e, is at most that of g (zeros have every power in common).
+/// g / h. The divisor may begin with zeros, e of them, if it is not 0 and g begins with as many.
 ///
-/// The answer is the number of terms that are known, `n − e`; 0 stands after them. Multiplied by h they give g back.
+/// The answer is the number of terms that are known, `n − e`; 0 stands after them. Their product with h is g.
 ///
 /// ```
 /// // X + X² by X, modulo 7, to 3 terms: 1 + X, and of the third term nothing is known

@@ -5,6 +5,7 @@
 --   the-quotient                the conditions have one solution, quotientWords
 --   unit-words, unit-checks     where g does not begin with 0 these are the words of `quotient`, and 12 is not given
 --   part-unit, words-written    how the code gets there
+--   short-first                 an example where two refusals apply
 --   zero-refused, lower-refused, common-passed, passed-one   refusal 12, and what passes it
 --   divided-one                 every call has one outcome
 -- Assumes nothing.
@@ -23,7 +24,8 @@ use Rattle.algebra.specs.Prime.{Prime}
 use Rattle.algebra.specs.Sums.{sumTo}
 use Rattle.algebra.proofs.SumsLaws.{sumTo-ext, sumTo-zeros, sumTo-append}
 use Rattle.algebra.proofs.FpLaws.{p-pos}
-use Rattle.numbers.specs.Words.{word, tabulate, over, part}
+use Rattle.numbers.specs.Words.{word, firstWhere, firstNonzero, firstLarge, tabulate, over, part}
+use Rattle.numbers.specs.Divisor.{leastDivisor}
 use Rattle.numbers.specs.Refusals.{Check, check, judge, refusal, outcome, accepted}
 use Rattle.numbers.specs.One.{TheOne, OneOutcome}
 use Rattle.numbers.specs.internal.Facts.{AllBelow}
@@ -198,6 +200,11 @@ module _ (p : ℕ) (f g old : List ℕ) (e : ℕ) (least : e ≡ leastPower g) (
       let z : ys ≡ tabulate e (λ _. 0) = zeros ∙ ap (λ (k : ℕ). tabulate k (λ _. 0)) m in
       writing-part divided ys old out (n - e) (n - (n - e)) (record { is = is; long = long }) l (ap length z ∙ length-tabulate e _ ∙ sym q) (omega arith) .is
       ∙ ap (λ (s : List ℕ). over s old) (ap (λ (s : List ℕ). divided ++ s) z ∙ words-are)
+
+-- 1 by 0 modulo 2, into no words: 10 comes before 12
+pub short-first : judge (quotientChecks 2 1 (1 ∷ []) (0 ∷ []) 0) ≡ Refuse (refusal 10 1)
+unfolding judge leastDivisor firstLarge firstWhere firstNonzero
+short-first = refl
 
 abbrev row : (N : ℕ) (f g : List ℕ) → Check
 row N f g = check 12 (not (ltb (leastPower g) N && leb (leastPower g) (leastPower f))) 0

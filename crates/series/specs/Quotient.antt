@@ -1,10 +1,10 @@
 -- The quotient of series that may have powers of X in common, by its conditions, and what `quotient` answers and leaves.
 --   leastPower s         the least power of X in s; its length where all its words are 0
---   quotientChecks ..    all checks: 12 unless the divisor is not 0 and its least power of X is at most the dividend's
---   IsQuotient p N f g h   with e the least power of X in g: h has N − e terms, 0 after them, and gives f modulo X^N when it is multiplied back
+--   quotientChecks ..    all checks: 12 unless g is not 0 and no power of X in f is lower than the least in g
+--   IsQuotient p N f g h   h is f / g: its product with g has all N columns of f, and it ends with as many zeros as g begins with
 --   QuotientDone         what an accepted call leaves: such a series, and past it what was there
---   Divided              answer and words at exit; the answer is the number of terms that are known, N − e
---   quotientWords ..     the words of the quotient: X^e is left out of both, column is made after column, and 0 stands in the last e
+--   Divided              answer and words at exit; the answer is the number of terms that are known
+--   quotientWords ..     the words of the quotient: the e zeros that g begins with are left out, in f too; column is made after column; e zeros follow
 -- Assumes nothing.
 use Prim.Native.Nat.{ℕ, _-_, _≤_}
 use mathlib.Core.Path.{_≡_}
@@ -35,6 +35,6 @@ pub record Divided (p N : ℕ) (f g old : List ℕ) (answer : Outcome ℕ) (new 
   pub answers : answer ≡ result (judge (quotientChecks p N f g (length old))) (N - leastPower g)
   pub leaves : Leaves (judge (quotientChecks p N f g (length old))) (QuotientDone p N f g old new) old new
 
--- the second way to say it (`the-quotient` in proofs/DividedLaws)
+-- a second way to say it (`the-quotient` in proofs/DividedLaws)
 unfoldable pub quotientWords : (p N : ℕ) (f g : List ℕ) → List ℕ
 quotientWords p N f g = let e = leastPower g in quotient p (N - e) (drop e f) (drop e g) ++ tabulate e (λ _. 0)

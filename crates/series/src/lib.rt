@@ -60,8 +60,8 @@ fn least_power(s: &[u32]) -> usize
     kernel::first_nonzero(s, 1, s.len())
 }
 
-// f / g, where g is not 0 and its least power of X, e, is no higher than f's: both are divided by X^e first. The answer is the number of terms that are
-// then known, N − e; 0 stands after them. The contract allows one outcome only: `divided-one` in proofs/DividedLaws.
+// f / g. The divisor may begin with zeros, e of them, if it is not 0 and f begins with as many: both are divided by X^e first. The answer is the number of
+// terms that are then known, N − e; 0 stands after them. The contract allows one outcome only: `divided-one` in proofs/DividedLaws.
 pub fn quotient(p: u32, n: u32, f: &[u32], g: &[u32], out: &mut [u32]) -> Answer
     ensures { λ r. ⌜ Divided p n (now (f .entry)) (now (g .entry)) (now (out .entry)) (outcome r) (now (out .exit)) ⌝ }
 {
