@@ -342,10 +342,18 @@ less-words-at p pos d a e h j =
 abbrev pub gatherAt : (p : ℕ) (f low : List ℕ) (m : ℕ) (high : List ℕ) (k n t : ℕ) → ℕ → ℕ
 gatherAt p f low m high k n t j = (word f (j * n + t) + (p - middleSum (rowsOf low n m) (rowsOf high n k) j t % p)) % p
 
--- first, 0, 0, ..
-pub first-only-later : (x t : ℕ) → 1 ≤ t → 0 ≡ firstOnly x t
-first-only-later x zero h = absurd (let z : ⊥ = omega arith in z)
-first-only-later x (suc t) h = refl
+-- zeros, and then the first word
+pub first-only-set : (x n : ℕ) → 1 ≤ n → set (tabulate n (λ _. 0)) 0 x ≡ tabulate n (firstOnly x)
+first-only-set x n h =
+    let long : length (set zeros 0 x) ≡ n = length-set zeros 0 x ∙ length-tabulate n _ in
+    ext-getD 0 _ _ (long ∙ sym (length-tabulate n _)) (λ k l. at k (omega arith) ∙ sym (word-tabulate n (firstOnly x) k (omega arith)))
+  where
+    zeros : List ℕ
+    zeros = tabulate n (λ _. 0)
+
+    at : (k : ℕ) → k < n → word (set zeros 0 x) k ≡ firstOnly x k
+    at zero l = getD-set-same zeros 0 x 0 (omega (arith, length-tabulate n (λ _. 0)))
+    at (suc k) l = getD-set-other zeros 0 (suc k) x 0 (λ (e : suc k ≡ 0). omega arith) ∙ word-tabulate n (λ _. 0) (suc k) l
 
 -- the words of a list, tabulated
 pub tabulate-words : (s : List ℕ) → tabulate (length s) (word s) ≡ s

@@ -142,12 +142,8 @@ pub fn start_row(first: u32, row: &mut [u32])
     requires { ⌜ 1 ≤ length (now row) ⌝ }
     ensures { λ _. ⌜ now (row .exit) ≡ tabulate (length (now (row .entry))) (firstOnly first) ⌝ }
 {
+    repeat(0, row);
     row[0] = first;
-    let mut t = 1;
-    while t < row.len() {
-        row[t] = 0;
-        t += 1;
-    }
 }
 
 // The words, over the first of out.

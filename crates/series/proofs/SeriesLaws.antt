@@ -14,9 +14,9 @@ use Rattle.algebra.proofs.SumsLaws.{sumTo-suc, sumTo-ext, sumTo-bound}
 use Rattle.numbers.specs.Words.{word}
 use Rattle.numbers.specs.internal.Facts.{AllBelow}
 use Rattle.numbers.specs.Divisor.{inverseOf}
-use Rattle.numbers.proofs.WordsLaws.{lt-or-ge, tabulate-below, Writing, writing-store, writing-take, from, from-is}
+use Rattle.numbers.proofs.WordsLaws.{lt-or-ge, Writing, writing-store, writing-take, from, from-is}
 use Rattle.numbers.specs.internal.Limits.{modulusBound}
-use Rattle.series.specs.Series.{sums, differences, productColumn, product, quotientColumn, quotient}
+use Rattle.series.specs.Series.{productColumn, quotientColumn, quotient}
 use Rattle.series.specs.internal.Dot.{dotSum}
 
 -- what a sum gains with one summand more
@@ -57,22 +57,9 @@ dot-rest g h t =
     ap (λ (s : List ℕ). sumTo t (λ i. word s i * word h (t - (i + 1)))) (from-is g 1)
     ∙ sumTo-ext t (λ i _. ap (λ (x : ℕ). x * word h (t - (i + 1))) (getD-drop 1 g i 0 ∙ ap (word g) (let e : 1 + i ≡ i + 1 = omega arith in e)))
 
-module _ (p : ℕ) (pos : 1 ≤ p) where
-  pub sums-below : (n : ℕ) (g h : List ℕ) → AllBelow p (sums p n g h)
-  unfolding sums
-  sums-below n g h = tabulate-below p n _ (λ k _. mod-lt _ pos)
-
-  pub differences-below : (n : ℕ) (g h : List ℕ) → AllBelow p (differences p n g h)
-  unfolding differences
-  differences-below n g h = tabulate-below p n _ (λ k _. mod-lt _ pos)
-
-  pub product-below : (n : ℕ) (g h : List ℕ) → AllBelow p (product p n g h)
-  unfolding product productColumn
-  product-below n g h = tabulate-below p n _ (λ k _. mod-lt _ pos)
-
-  pub column-below : (f g h : List ℕ) (t : ℕ) → quotientColumn p f g h t < p
-  unfolding quotientColumn
-  column-below f g h t = mod-lt _ pos
+pub column-below : (p : ℕ) → 1 ≤ p → (f g h : List ℕ) (t : ℕ) → quotientColumn p f g h t < p
+unfolding quotientColumn
+column-below p pos f g h t = mod-lt _ pos
 
 pub quotient-suc : (p t : ℕ) (f g : List ℕ) → quotient p (suc t) f g ≡ quotient p t f g ++ (quotientColumn p f g (quotient p t f g) t ∷ [])
 unfolding quotient
