@@ -7,7 +7,7 @@
  * The result of a call is 64 bits wide:
  *   accepted   high half 0, low half the answer: the number of words written, or what the function's comment says;
  *   refused    high half the refusal's number (enum bk_refusal), low half its detail. Then no word was written.
- * Words past those that an accepted call answers for are untouched.
+ * Words past those that an accepted call writes are untouched.
  *
  * Link with the archive that `rt staticlib capi` writes (x86-64 Linux); the README says how.
  */

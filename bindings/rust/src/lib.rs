@@ -4,7 +4,7 @@
 //! A power series has `n` words, that at `t` being its coefficient of X^t. A row polynomial is the series at Y^0, Y^1, .. up to Y^d, one after the
 //! other; `d` is its degree bound. Words are below the prime modulus `p`, which is at most 16,777,215; `d` is at most 32 and `n` at most 256.
 //!
-//! [`Sheet`] owns its words; the modules' functions work in slices that the caller lends, allocate nothing, and leave words past the answer as they were.
+//! [`Sheet`] owns its words; the modules' functions work in slices that the caller lends, allocate nothing, and leave words past those that they write as they were.
 //!
 //! ```
 //! use bopkheul::Sheet;

@@ -12,7 +12,7 @@ use lib.Seq.{ext-getD, getD-append-add, getD-drop, getD-take, getD-set-same, get
 use Rattle.numbers.specs.Words.{word, tabulate, over}
 use Rattle.numbers.specs.internal.Facts.{AllBelow}
 use Rattle.rows.specs.Rows.{rowsOf}
-use Rattle.numbers.proofs.WordsLaws.{lt-or-ge, length-tabulate, word-tabulate, tabulate-below, length-over, over-whole, Writing, writing-next, over-past, writing-past, from, from-is}
+use Rattle.numbers.proofs.WordsLaws.{lt-or-ge, length-tabulate, word-tabulate, tabulate-below, length-over, over-whole, Writing, writing-next, over-past, writing-past, from, from-is, drop-below}
 use Rattle.numbers.specs.internal.Limits.{modulusBound}
 use Rattle.rows.proofs.RowsLaws.{row-fits}
 use Rattle.columns.specs.internal.Column.{hornerWord, hornerWords, lessMultiple, digitOf, digitWords, lineTimes, ColumnStored, middleSum, firstOnly}
@@ -196,9 +196,6 @@ append-below p s t hs ht k l =
     let q : length s + (k - length s) ≡ k = omega arith in
     subst (λ (i : ℕ). word (s ++ t) i < p) q (rw (getD-append-add s t (k - length s) 0) (ht (k - length s) (omega (arith, length-append s t)))))
     (lt-or-ge k (length s))
-
-pub drop-below : (p n : ℕ) (s : List ℕ) → AllBelow p s → AllBelow p (drop n s)
-drop-below p n s h k l = rw (getD-drop n s k 0) (h (n + k) (omega (arith, length-drop n s)))
 
 pub take-below : (p n : ℕ) (s : List ℕ) → n ≤ length s → AllBelow p s → AllBelow p (take n s)
 take-below p n s g h k l = let e = length-take-le n s g in rw (getD-take n s k 0 (omega arith)) (h k (omega arith))

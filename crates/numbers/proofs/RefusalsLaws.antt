@@ -1,7 +1,7 @@
 -- Laws of judging: what follows a pass, and what a pass says of the input.
 -- Assumes nothing.
 use mathlib.Core.Path.{_≡_, refl, sym, ap, _∙_, subst}
-use mathlib.Core.Bool.{Bool, true, false, not, _||_}
+use mathlib.Core.Bool.{Bool, true, false, not, _&&_, _||_}
 use mathlib.Core.List.{List, [], _∷_, _++_}
 use Prim.Native.Nat.{ℕ, _*_, _≤_, _<_}
 use native.Mathlib.Nat.{mul-le-mul}
@@ -18,7 +18,7 @@ use Rattle.numbers.specs.Refusals.{Check, check, judge, refusal, Outcome
 use Rattle.numbers.specs.declared.refusal.Refusal.{Refusal}
 use Rattle.numbers.specs.declared.refusal.Verdict.{Verdict}
 use Rattle.numbers.specs.declared.refusal.Verdict.the-variants.{Pass, Refuse}
-use Rattle.numbers.proofs.WordsLaws.{none-large, below-append, large-there, lt-or-ge}
+use Rattle.numbers.proofs.WordsLaws.{none-large, below-append, large-there, lt-or-ge, true-false}
 use Rattle.numbers.proofs.DivisorLaws.{least-prime, prime-least}
 use Rattle.numbers.specs.Limits.{largestModulus, mostRows, largestWidth}
 use Rattle.numbers.specs.internal.Limits.{modulusBound}
@@ -82,8 +82,13 @@ pass-parts (c ∷ cs) ds e =
     (skip-check c cs skipped ∙ a, b)
 
 pub neither : (a b : Bool) → a || b ≡ false → (a ≡ false) × (b ≡ false)
-neither true b e = absurd (let z : true ≡ false = e in let w : _≡_ {A = ℕ} 0 1 = cc in omega arith)
+neither true b e = true-false e
 neither false b e = (refl, e)
+
+pub both : (a b : Bool) → not (a && b) ≡ false → (a ≡ true) × (b ≡ true)
+both true true e = (refl, refl)
+both true false e = true-false e
+both false b e = true-false e
 
 -- n is from low to high
 pub inside : (low high n : ℕ) → outside low high n ≡ false → (low ≤ n) × (n ≤ high)

@@ -255,8 +255,11 @@ length-from s a = ap length (from-is s a) ∙ length-drop a s
 pub word-from : (s : List ℕ) (a k : ℕ) → word (from s a) k ≡ word s (a + k)
 word-from s a k = ap (λ (l : List ℕ). word l k) (from-is s a) ∙ getD-drop a s k 0
 
+pub drop-below : (p n : ℕ) (s : List ℕ) → AllBelow p s → AllBelow p (drop n s)
+drop-below p n s b k l = rw (getD-drop n s k 0) (b (n + k) (omega (arith, length-drop n s)))
+
 pub from-below : (p : ℕ) (s : List ℕ) (a : ℕ) → AllBelow p s → AllBelow p (from s a)
-from-below p s a b k h = rw (word-from s a k) (b (a + k) (omega (arith, length-from s a)))
+from-below p s a b = subst (AllBelow p) (sym (from-is s a)) (drop-below p a s b)
 
 -- the first large word is large
 head-large : (p x n t : ℕ) (s : List ℕ) (b : Bool) → leb p x ≡ b → (t < n → p ≤ word s t) → choose b 0 (suc t) < suc n → p ≤ word (x ∷ s) (choose b 0 (suc t))

@@ -32,9 +32,9 @@ use Rattle.algebra.proofs.FpLaws.{p-pos, Fp-field}
 use Rattle.algebra.proofs.BridgeLaws.{same-rem, rem-zero, rem-one}
 use Rattle.numbers.specs.Words.{word}
 use Rattle.numbers.specs.internal.Facts.{AllBelow}
-use Rattle.numbers.proofs.WordsLaws.{true-false, lt-or-ge}
+use Rattle.numbers.proofs.WordsLaws.{true-false, lt-or-ge, drop-below}
 use Rattle.columns.specs.internal.Column.{hornerWords}
-use Rattle.columns.proofs.ColumnLaws.{horner-words-at, horner-below, length-horner, drop-below}
+use Rattle.columns.proofs.ColumnLaws.{horner-words-at, horner-below, length-horner}
 use Rattle.columns.proofs.SolveLaws.{below-pol, horner-poly}
 use Rattle.powers.specs.internal.Powers.{overField, DividedOut, GivesPowers, FoundPowers}
 use Rattle.hensel.proofs.FactorsLaws.{rootsOf, key, roots-rising}

@@ -14,7 +14,7 @@ use native.Mathlib.Nat.{zero-mod, add-zero, mul-zero, sub-zero, pos-of-ne-zero}
 use native.Mathlib.Omega.{arith}
 use mathlib.Core.Path.{_≡_, refl, sym, ap, ap₂, _∙_}
 use mathlib.Core.Logic.{⊎-elim}
-use mathlib.Core.Bool.{Bool, true, false, not, _&&_}
+use mathlib.Core.Bool.{false, not, _&&_}
 use mathlib.Core.List.{List, [], _∷_, _++_, append-nil}
 use borrow.Author.Tests.{lt-ltb, le-ltb, ltb-true, le-leb, lt-leb, leb-true}
 use lib.Dec.{leb, ltb}
@@ -33,8 +33,8 @@ use Rattle.numbers.specs.declared.refusal.Refusal.{Refusal}
 use Rattle.numbers.specs.declared.refusal.Verdict.the-variants.{Pass, Refuse}
 use Rattle.numbers.specs.declared.refusal.Answer.{Answer}
 use Rattle.numbers.specs.declared.refusal.Answer.the-variants.{Refused}
-use Rattle.numbers.proofs.WordsLaws.{lt-or-ge, true-false, from, from-is, length-from, length-over, writing-part, nonzero-is, nonzero-le, nonzero-there, nonzero-before, zeros-nonzero, length-tabulate, word-tabulate}
-use Rattle.numbers.proofs.RefusalsLaws.{after-same, skip-check, leave-refused, leave-done, operation-pass, pass-parts, pass-check, reduced, below-reduced}
+use Rattle.numbers.proofs.WordsLaws.{lt-or-ge, from, from-is, length-from, drop-below, length-over, writing-part, nonzero-is, nonzero-le, nonzero-there, nonzero-before, zeros-nonzero, length-tabulate, word-tabulate}
+use Rattle.numbers.proofs.RefusalsLaws.{both, after-same, skip-check, leave-refused, leave-done, operation-pass, pass-parts, pass-check, reduced, below-reduced}
 use Rattle.numbers.proofs.OneLaws.{verdict-one}
 use Rattle.series.specs.Series.{seriesChecks, productColumn, product, quotient}
 use Rattle.series.specs.Quotient.{leastPower, quotientChecks, IsQuotient, QuotientDone, Divided, quotientWords}
@@ -99,9 +99,6 @@ module _ {p : ℕ} (prime : Prime p) (N : ℕ) (f g : List ℕ) (f-long : length
   abbrev Q : List ℕ
   Q = quotient p (N - e) F G
 
-  drop-below : (s : List ℕ) → AllBelow p s → AllBelow p (drop e s)
-  drop-below s b k l = rw (getD-drop e s k 0) (b (e + k) (omega (arith, length-drop e s)))
-
   words-low : (t : ℕ) → t < N - e → word (quotientWords p N f g) t ≡ word Q t
   unfolding quotientWords
   words-low t l = List·getD-append Q _ 0 t (omega (arith, length-quotient p (N - e) F G))
@@ -152,7 +149,7 @@ module _ {p : ℕ} (prime : Prime p) (N : ℕ) (f g : List ℕ) (f-long : length
           let q : e + (t - e) ≡ t = omega arith in
           ap (productColumn p (quotientWords p N f g) g) (sym q) ∙ column-down (quotientWords p N f g) (t - e)
           ∙ product-ext p _ Q G (t - e) (λ i v. words-low i (omega arith))
-          ∙ quotient-product prime F G (drop-below f f-below) (drop-below g g-below) (divisor-first g (omega arith)) (N - e) (t - e) (omega arith)
+          ∙ quotient-product prime F G (drop-below p e f f-below) (drop-below p e g g-below) (divisor-first g (omega arith)) (N - e) (t - e) (omega arith)
           ∙ getD-drop e f (t - e) 0 ∙ ap (word f) q)
           (lt-or-ge t e)
 
@@ -162,7 +159,7 @@ module _ {p : ℕ} (prime : Prime p) (N : ℕ) (f g : List ℕ) (f-long : length
           let long : length k ≡ N - e = length-take-le (N - e) h (omega (arith, x .series .0)) in
           let same : (i : ℕ) → i < N - e → word k i ≡ word h i = λ i l. getD-take (N - e) h i 0 l in
           let is : k ≡ Q =
-          quotient-unique prime F G (drop-below f f-below) (drop-below g g-below) (divisor-first g (omega arith)) (N - e) k long
+          quotient-unique prime F G (drop-below p e f f-below) (drop-below p e g g-below) (divisor-first g (omega arith)) (N - e) k long
           (λ i l. rw (same i (omega arith)) (reduced p h (x .series .1) i (omega (arith, x .series .0))))
           (λ t l. product-ext p k h G t (λ i v. same i (omega arith)) ∙ sym (column-down h t)
           ∙ sym (word-tabulate N (productColumn p h g) (e + t) (omega arith)) ∙ ap (λ s. word s (e + t)) (x .back) ∙ sym (getD-drop e f t 0)) in
@@ -229,11 +226,6 @@ unit-checks p N f g room one ne =
     let e = unit-least g ne in
     after-same (seriesChecks p N f g room) (row N f g ∷ []) [] (skip-check (row N f g) [] (skipped N f g (omega arith) (omega arith)))
     ∙ ap judge (append-nil (seriesChecks p N f g room))
-
-both : (a b : Bool) → not (a && b) ≡ false → (a ≡ true) × (b ≡ true)
-both true true e = (refl, refl)
-both true false e = true-false e
-both false b e = true-false e
 
 -- what passes has exactly one quotient
 pub passed-one : (p N : ℕ) (f g : List ℕ) (room : ℕ) → judge (quotientChecks p N f g room) ≡ Pass → TheOne (IsQuotient p N f g) (quotientWords p N f g)

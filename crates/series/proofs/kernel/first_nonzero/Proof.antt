@@ -1,8 +1,8 @@
 -- `series::kernel::first_nonzero` meets its contract. The loop's invariant: a is the place of word i · step, and all such words before it are 0.
 -- Assumes nothing.
-use mathlib.Core.Path.{_≡_, sym, ap, subst, _∙_}
+use mathlib.Core.Path.{_≡_, sym, subst}
 use Prim.Native.Nat.{ℕ, _+_, _-_, _*_, _≤_, _<_}
-use native.Mathlib.Nat.{add-mul, one-mul, zero-mul, mul-le-mul, le-refl}
+use native.Mathlib.Nat.{zero-mul, mul-le-mul, le-refl}
 use native.Mathlib.Omega.{arith}
 use lib.ListN.{length}
 use borrow.Author.Count.{below-more}
@@ -18,16 +18,12 @@ Inv-loop s step count i₀ a₀ i a = (i ≤ count) × (a ≡ i * step) × ((k :
 abbrev μ-loop : tie.MeasureT-loop
 μ-loop s step count i₀ a₀ i a = count - i
 
--- the next place
-next : (i step : ℕ) → (i + 1) * step ≡ i * step + step
-next i step = add-mul i 1 step ∙ ap (λ (x : ℕ). i * step + x) (one-mul step)
-
--- is within s, or its end
+-- the next place is within s, or its end
 within : (b : tie.In-loop Inv-loop μ-loop) → let x = b .before .before .args in b .before .loop .a + x .step ≤ length (x .s .now)
 within b =
     let x = b .before .before .args in
     let i = b .before .loop .i in
-    omega (arith, next i (x .step), mul-le-mul {n₁ = i + 1} {m₁ = x .step} {n₂ = x .count} {m₂ = x .step} (omega arith) (le-refl (x .step)))
+    omega (arith, mul-le-mul {n₁ = i + 1} {m₁ = x .step} {n₂ = x .count} {m₂ = x .step} (omega arith) (le-refl (x .step)))
 
 loop-holds : tie.Need-loop-holds Inv-loop μ-loop
 loop-holds c = (omega arith, sym (zero-mul _), λ k l. omega arith)
@@ -51,7 +47,7 @@ loop-again : tie.Need-loop-again Inv-loop μ-loop
 loop-again c =
     let x = c .before .before .before .before .args in
     let l = c .before .before .before .loop in
-    (omega arith, omega (arith, next (l .i) (x .step)), below-more (λ k. word (x .s .now) (k * x .step) ≡ 0) _ (l .inv .2) (subst (λ (a : ℕ). word (x .s .now) a ≡ 0) (l .inv .1) (c .if1 .left)))
+    (omega arith, omega arith, below-more (λ k. word (x .s .now) (k * x .step) ≡ 0) _ (l .inv .2) (subst (λ (a : ℕ). word (x .s .now) a ≡ 0) (l .inv .1) (c .if1 .left)))
 
 returns : tie.Need-returns Inv-loop μ-loop
 returns c = let l = c .before .loop in nonzero-is _ _ _ (l .inv .0) (l .inv .2) (λ h. omega arith)
