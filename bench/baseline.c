@@ -85,19 +85,29 @@ static uint64_t dot(const uint32_t *g, const uint32_t *h, size_t k) {
     return sum;
 }
 
-static uint64_t check_series(uint32_t p, uint32_t n, const uint32_t *g, size_t g_count, const uint32_t *h, size_t h_count, size_t room) {
+static bool is_known(const uint32_t *s, uint32_t n, uint32_t known) { return known >= 1 && known <= n && all_below(1, s + known, n - known); }
+
+/* Where all terms are known, the counts are n. */
+static uint64_t check_known(uint32_t p, uint32_t n, const uint32_t *g, size_t g_count, uint32_t g_known, const uint32_t *h, size_t h_count, uint32_t h_known, size_t room) {
     uint64_t r = check_modulus(p);
     if (r) return r;
     if (n < 1 || n > 256) return refuse(4, 0);
     if (g_count != n || (h && h_count != n)) return refuse(5, 0);
     if ((r = check_words(p, g, n, 0)) || (h && (r = check_words(p, h, n, n)))) return r;
+    if (!is_known(g, n, g_known) || (h && !is_known(h, n, h_known))) return refuse(21, 0);
     return room < n ? refuse(10, n) : 0;
 }
 
-uint64_t base_series_product(uint32_t p, uint32_t n, const uint32_t *g, size_t g_count, const uint32_t *h, size_t h_count, uint32_t *out, size_t out_count) {
-    uint64_t r = check_series(p, n, g, g_count, h, h_count, out_count);
+static uint64_t check_series(uint32_t p, uint32_t n, const uint32_t *g, size_t g_count, const uint32_t *h, size_t h_count, size_t room) {
+    return check_known(p, n, g, g_count, n, h, h_count, n, room);
+}
+
+uint64_t base_series_product(uint32_t p, uint32_t n, const uint32_t *g, size_t g_count, uint32_t g_known, const uint32_t *h, size_t h_count, uint32_t h_known, uint32_t *out, size_t out_count) {
+    uint64_t r = check_known(p, n, g, g_count, g_known, h, h_count, h_known, out_count);
     if (r) return r;
-    for (uint32_t t = 0; t < n; t++) out[t] = (uint32_t)(dot(g, h, t + 1) % p);
+    uint32_t known = g_known < h_known ? g_known : h_known;
+    for (uint32_t t = 0; t < known; t++) out[t] = (uint32_t)(dot(g, h, t + 1) % p);
+    memset(out + known, 0, (n - known) * sizeof *out);
     return n;
 }
 

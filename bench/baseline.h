@@ -8,7 +8,7 @@
 uint64_t base_sum(uint32_t p, uint32_t value, uint32_t other);
 /* The same, with p judged by every number up to its root, as the engine did before F-7. */
 uint64_t base_sum_by_every_number(uint32_t p, uint32_t value, uint32_t other);
-uint64_t base_series_product(uint32_t p, uint32_t n, const uint32_t *g, size_t g_count, const uint32_t *h, size_t h_count, uint32_t *out, size_t out_count);
+uint64_t base_series_product(uint32_t p, uint32_t n, const uint32_t *g, size_t g_count, uint32_t g_known, const uint32_t *h, size_t h_count, uint32_t h_known, uint32_t *out, size_t out_count);
 uint64_t base_series_inverse(uint32_t p, uint32_t n, const uint32_t *g, size_t g_count, uint32_t *out, size_t out_count);
 uint64_t base_series_quotient(uint32_t p, uint32_t n, const uint32_t *f, size_t f_count, const uint32_t *g, size_t g_count, uint32_t *out, size_t out_count);
 uint64_t base_pair(uint32_t p, uint32_t d, uint32_t n, const uint32_t *f, size_t f_count, uint32_t h, uint32_t w, uint32_t *out, size_t out_count);

@@ -34,7 +34,7 @@ static void fill(uint32_t *words, size_t count) {
 }
 
 /* Side 0 is the engine, side 1 the C version or a library. */
-static uint32_t g[MAX_N], h[MAX_N], f[(D + 1) * MAX_N], roots[D], powers[D];
+static uint32_t g[MAX_N], h[MAX_N], f[(D + 1) * MAX_N], lengths[D], roots[D], powers[D];
 static uint32_t fresh[2][WORDS]; /* what a call begins with, where it works in place: each side's own sheet or pair */
 static uint32_t out[2][WORDS];
 static size_t words[2]; /* of fresh and out */
@@ -116,11 +116,12 @@ static void draw_polynomial(uint32_t count) {
     for (uint32_t j = 0; j <= D; j++) f[j * n] = (uint32_t)start[j];
 }
 
-/* Each side opens its own sheet of the same polynomial, and works it as far as the call wants it. */
+/* Each side opens its own sheet of the same polynomial, all of it known, and works it as far as the call wants it. */
 static void sheet_input(const struct benchmark *b) {
     draw_roots(b->roots);
     draw_polynomial(b->roots);
-    uint64_t opened = bk_sheet_open(p, D, n, f, (D + 1) * n, roots, b->roots, fresh[0], WORDS);
+    for (uint32_t j = 0; j < D; j++) lengths[j] = n;
+    uint64_t opened = bk_sheet_open(p, D, n, f, (D + 1) * n, lengths, D, roots, b->roots, fresh[0], WORDS);
     stop_unless(!bk_refused(opened), b, "the engine refuses to open the sheet");
     words[0] = bk_answer(opened);
     words[1] = base_sheet_open(p, D, n, f, roots, powers, b->roots, fresh[1]);
@@ -135,7 +136,7 @@ static void sheet_input(const struct benchmark *b) {
 static uint64_t sum(int side) { return (side ? base_sum : bk_sum)(p, p - 1, 2); }
 
 static uint64_t product(int side) {
-    return (side ? base_series_product : bk_series_product)(p, n, g, n, h, n, out[side], n);
+    return (side ? base_series_product : bk_series_product)(p, n, g, n, n, h, n, n, out[side], n);
 }
 
 static uint64_t inverse(int side) {
@@ -164,10 +165,11 @@ static uint64_t test(int side) {
 
 static bool same_words(void) { return !memcmp(out[0], out[1], words[0] * sizeof **out); }
 
-/* p, D, N, k and r; then, from word 10 on, roots, powers, polynomial and factors, which end where the engine's sheet ends and the cofactors of the other begin. */
+/* p, D, N, k and r; then, from where word 5 says, roots, powers, polynomial and factors, which end where the engine's sheet ends and the cofactors of the other
+ * begin. */
 static bool same_sheet(void) {
-    size_t end = words[0];
-    return out[1][8] == end && !memcmp(out[0], out[1], 5 * sizeof **out) && !memcmp(out[0] + 10, out[1] + 10, (end - 10) * sizeof **out);
+    size_t from[2] = {out[0][5], out[1][5]}, count = words[0] - from[0];
+    return out[1][8] == from[1] + count && !memcmp(out[0], out[1], 5 * sizeof **out) && !memcmp(out[0] + from[0], out[1] + from[1], count * sizeof **out);
 }
 
 /* Where a call's answer is all that it gives. */

@@ -25,14 +25,15 @@
 extern "C" {
 #endif
 
-/* Why a call is refused. Checks run in the order of the numbers; where a call is lent a sheet and takes from it what it needs, 13 comes first. */
+/* Why a call is refused. Checks run in the order of the numbers, but 21 comes right after 6; where a call is lent a sheet and takes from it what it needs, 13
+ * comes first. 17 to 20 are not in use. */
 enum bk_refusal {
     BK_ACCEPTED = 0,
     BK_MODULUS_RANGE = 1, /* p is below 2 or above 16,777,215 */
     BK_COMPOSITE = 2,     /* p is composite; detail: its least divisor above 1 */
     BK_DEGREE = 3,        /* a degree bound, or a product's, is above 32; for opening a sheet also 0 */
     BK_TERMS = 4,         /* n is outside 1..256 */
-    BK_ROWS = 5,          /* an input has more or fewer words than d and n give it; see also bk_sheet_replay */
+    BK_ROWS = 5,          /* an input has more or fewer words than d and n give it, or there are not d lengths; see also bk_sheet_replay */
     BK_UNREDUCED = 6,     /* some coefficient, root or number is not below p; detail: the first one's position from 0, inputs counted on in the order given */
     BK_NOT_MONIC = 7,     /* opening: row d is not 1, 0, 0, .. */
     BK_ROOT_LIST = 8,     /* opening: the roots are none, more than d, or not strictly rising */
@@ -41,9 +42,10 @@ enum bk_refusal {
     BK_FLAT = 11,         /* pair: f has no row that is other than 0 at X = 0 */
     BK_NO_UNIT = 12,      /* quotient: the divisor is 0, or its least power of X is above the dividend's; inverse: the series begins with 0, the number is 0 */
     BK_SPOILED = 13,      /* the words are no sound sheet; or, continuing a pair, not its first h terms followed by zeros, or h is above n */
-    BK_BEYOND = 14,       /* the terms wanted are 0 or more than n */
+    BK_BEYOND = 14,       /* the terms wanted are 0, more than n, or for a sheet more than its least known length */
     BK_BEHIND = 15,       /* the terms wanted are fewer than those there */
-    BK_NO_FACTOR = 16     /* there is no factor of this index */
+    BK_NO_FACTOR = 16,    /* there is no factor of this index */
+    BK_KNOWN_TERMS = 21   /* a count of known terms or a row's known length is outside 1..n, or a word past it is not 0 */
 };
 
 static inline uint32_t bk_refused(uint64_t result) { return (uint32_t)(result >> 32); } /* 0 where the call was accepted */
@@ -56,10 +58,12 @@ uint64_t bk_product(uint32_t p, uint32_t value, uint32_t other);
 uint64_t bk_inverse(uint32_t p, uint32_t value);
 
 /* Series: g + h, g - h, g * h, g / h, 1 / g. All n words are written, and the answer is n; but g / h, where the least power of X in h is e, is known to n - e
- * terms only: that is then the answer, and 0 stands in the last e words. */
-uint64_t bk_series_sum(uint32_t p, uint32_t n, const uint32_t *g, size_t g_count, const uint32_t *h, size_t h_count, uint32_t *out, size_t out_count);
+ * terms only: that is then the answer, and 0 stands in the last e words. Sum and product are told how many terms of each operand are known, which is n where
+ * all are; those past them must be 0. The terms known in both, as many as the lesser of the two counts, are those of the sum or product, and 0 stands after
+ * them. */
+uint64_t bk_series_sum(uint32_t p, uint32_t n, const uint32_t *g, size_t g_count, uint32_t g_known, const uint32_t *h, size_t h_count, uint32_t h_known, uint32_t *out, size_t out_count);
 uint64_t bk_series_difference(uint32_t p, uint32_t n, const uint32_t *g, size_t g_count, const uint32_t *h, size_t h_count, uint32_t *out, size_t out_count);
-uint64_t bk_series_product(uint32_t p, uint32_t n, const uint32_t *g, size_t g_count, const uint32_t *h, size_t h_count, uint32_t *out, size_t out_count);
+uint64_t bk_series_product(uint32_t p, uint32_t n, const uint32_t *g, size_t g_count, uint32_t g_known, const uint32_t *h, size_t h_count, uint32_t h_known, uint32_t *out, size_t out_count);
 uint64_t bk_series_quotient(uint32_t p, uint32_t n, const uint32_t *g, size_t g_count, const uint32_t *h, size_t h_count, uint32_t *out, size_t out_count);
 uint64_t bk_series_inverse(uint32_t p, uint32_t n, const uint32_t *g, size_t g_count, uint32_t *out, size_t out_count);
 
@@ -74,12 +78,13 @@ uint64_t bk_rows_shift(uint32_t p, uint32_t d, uint32_t n, const uint32_t *f, si
  * which `out` holds: only columns h..w-1 change. */
 uint64_t bk_pair(uint32_t p, uint32_t d, uint32_t n, const uint32_t *f, size_t f_count, uint32_t h, uint32_t w, uint32_t *out, size_t out_count);
 
-/* A factor sheet with r factors takes exactly 10 + 2r + (2d + 1)n words: ten header words (p, d, n, terms worked, r, offsets of roots, polynomial and
- * factors, and twice the total), then root and power of each factor, the d + 1 rows of the polynomial, and the d rows of the factors below their leading 1,
- * columns from the terms worked up 0. Words past the total are free. Open writes a sheet with one term, from f monic of degree d and its roots at X = 0, and
- * answers the total. */
-uint64_t bk_sheet_open(uint32_t p, uint32_t d, uint32_t n, const uint32_t *f, size_t f_count, const uint32_t *roots, size_t roots_count, uint32_t *out, size_t out_count);
-/* Works the factors out to w terms, from those there. The answer is w. */
+/* A factor sheet with r factors takes exactly 11 + d + 2r + (2d + 1)n words: eleven header words (p, d, n, terms worked, r, offsets of roots, polynomial and
+ * factors, twice the total, and the least length), then the known lengths of rows 0..d-1 of the polynomial, root and power of each factor, the d + 1 rows of
+ * the polynomial, and the d rows of the factors below their leading 1, columns from the terms worked up 0. Words past the total are free. Open writes a sheet
+ * with one term, from f monic of degree d, the known lengths of its rows 0..d-1 and its roots at X = 0, and answers the total. A length is from 1 to n, and is
+ * n where all of the row is known; the row's words past it must be 0. Positions in the detail of 6 are counted along the rows and then the roots. */
+uint64_t bk_sheet_open(uint32_t p, uint32_t d, uint32_t n, const uint32_t *f, size_t f_count, const uint32_t *lengths, size_t lengths_count, const uint32_t *roots, size_t roots_count, uint32_t *out, size_t out_count);
+/* Works the factors out to w terms, from those there; w is at most the least length, word 10. The answer is w. */
 uint64_t bk_sheet_extend(uint32_t *sheet, size_t sheet_count, uint32_t w);
 /* 1 where the words begin with a sound sheet, else 0; it refuses nothing. */
 uint64_t bk_sheet_test(const uint32_t *sheet, size_t sheet_count);
@@ -120,14 +125,14 @@ static inline uint8_t *bk_bytes_out(uint8_t *bytes, size_t count) {
     return count ? bytes : &none;
 }
 
-static inline uint64_t bk_series_sum_any(uint32_t p, uint32_t n, const uint32_t *g, size_t g_count, const uint32_t *h, size_t h_count, uint32_t *out, size_t out_count) {
-    return bk_series_sum(p, n, bk_words_in(g, g_count), g_count, bk_words_in(h, h_count), h_count, bk_words_out(out, out_count), out_count);
+static inline uint64_t bk_series_sum_any(uint32_t p, uint32_t n, const uint32_t *g, size_t g_count, uint32_t g_known, const uint32_t *h, size_t h_count, uint32_t h_known, uint32_t *out, size_t out_count) {
+    return bk_series_sum(p, n, bk_words_in(g, g_count), g_count, g_known, bk_words_in(h, h_count), h_count, h_known, bk_words_out(out, out_count), out_count);
 }
 static inline uint64_t bk_series_difference_any(uint32_t p, uint32_t n, const uint32_t *g, size_t g_count, const uint32_t *h, size_t h_count, uint32_t *out, size_t out_count) {
     return bk_series_difference(p, n, bk_words_in(g, g_count), g_count, bk_words_in(h, h_count), h_count, bk_words_out(out, out_count), out_count);
 }
-static inline uint64_t bk_series_product_any(uint32_t p, uint32_t n, const uint32_t *g, size_t g_count, const uint32_t *h, size_t h_count, uint32_t *out, size_t out_count) {
-    return bk_series_product(p, n, bk_words_in(g, g_count), g_count, bk_words_in(h, h_count), h_count, bk_words_out(out, out_count), out_count);
+static inline uint64_t bk_series_product_any(uint32_t p, uint32_t n, const uint32_t *g, size_t g_count, uint32_t g_known, const uint32_t *h, size_t h_count, uint32_t h_known, uint32_t *out, size_t out_count) {
+    return bk_series_product(p, n, bk_words_in(g, g_count), g_count, g_known, bk_words_in(h, h_count), h_count, h_known, bk_words_out(out, out_count), out_count);
 }
 static inline uint64_t bk_series_quotient_any(uint32_t p, uint32_t n, const uint32_t *g, size_t g_count, const uint32_t *h, size_t h_count, uint32_t *out, size_t out_count) {
     return bk_series_quotient(p, n, bk_words_in(g, g_count), g_count, bk_words_in(h, h_count), h_count, bk_words_out(out, out_count), out_count);
@@ -150,8 +155,8 @@ static inline uint64_t bk_rows_shift_any(uint32_t p, uint32_t d, uint32_t n, con
 static inline uint64_t bk_pair_any(uint32_t p, uint32_t d, uint32_t n, const uint32_t *f, size_t f_count, uint32_t h, uint32_t w, uint32_t *out, size_t out_count) {
     return bk_pair(p, d, n, bk_words_in(f, f_count), f_count, h, w, bk_words_out(out, out_count), out_count);
 }
-static inline uint64_t bk_sheet_open_any(uint32_t p, uint32_t d, uint32_t n, const uint32_t *f, size_t f_count, const uint32_t *roots, size_t roots_count, uint32_t *out, size_t out_count) {
-    return bk_sheet_open(p, d, n, bk_words_in(f, f_count), f_count, bk_words_in(roots, roots_count), roots_count, bk_words_out(out, out_count), out_count);
+static inline uint64_t bk_sheet_open_any(uint32_t p, uint32_t d, uint32_t n, const uint32_t *f, size_t f_count, const uint32_t *lengths, size_t lengths_count, const uint32_t *roots, size_t roots_count, uint32_t *out, size_t out_count) {
+    return bk_sheet_open(p, d, n, bk_words_in(f, f_count), f_count, bk_words_in(lengths, lengths_count), lengths_count, bk_words_in(roots, roots_count), roots_count, bk_words_out(out, out_count), out_count);
 }
 static inline uint64_t bk_sheet_extend_any(uint32_t *sheet, size_t sheet_count, uint32_t w) {
     return bk_sheet_extend(bk_words_out(sheet, sheet_count), sheet_count, w);

@@ -58,19 +58,22 @@ fn expect_agreement(report: &mut Report, given: [&Given; 2], words: [&[u32]; 2])
     report.kind(kind(f, g, agreeing, worked));
 }
 
-/// Once after lists of calls, so that the sheets have any terms, and once with all.
+/// Once after lists of calls, so that the sheets have any terms, and once with all that there can be.
 fn compare(random: &mut Random, report: &mut Report, f: &Given, g: &Given) {
     let sheets = [f, g].map(|given| {
         let fresh = opened(random, report, given);
-        several_goes(random, report, &fresh)
+        several_goes(random, report, given, &fresh)
     });
     expect_agreement(report, [f, g], [&sheets[0], &sheets[1]]);
-    let sheets = sheets.map(|sheet| {
-        let called = extend(report, &sheet, sheet[2]);
-        report.expect(called.outcome == Ok(sheet[2]), &format!("{sheet:?} extends to all terms"));
+    let [a, b] = [(f, &sheets[0]), (g, &sheets[1])].map(|(given, sheet)| {
+        let called = extend(report, sheet, given.reach());
+        report.expect(called.outcome == Ok(given.reach()), &format!("{sheet:?} extends to all terms that are known"));
         called.words
     });
-    expect_agreement(report, [f, g], [&sheets[0], &sheets[1]]);
+    expect_agreement(report, [f, g], [&a, &b]);
+    if f.lengths != g.lengths {
+        report.kind("demand 3: rows known to other lengths");
+    }
 }
 
 /// The same polynomial with another number of columns: those that both have are the same.
@@ -80,7 +83,7 @@ fn with_columns(random: &mut Random, given: &Given, n: u32) -> Given {
         let bound = if j < given.d as usize { given.p } else { 1 }; // the top row is 1, 0, 0, ..
         f.extend((0..n as usize).map(|t| row.get(t).copied().unwrap_or_else(|| random.below(bound))));
     }
-    Given { n, f, ..given.clone() }
+    Given { n, f, lengths: vec![n; given.d as usize], ..given.clone() }
 }
 
 /// The same below column t, and another number in one row of column t; past it the same, or anything.
@@ -105,9 +108,10 @@ fn other_degree(random: &mut Random, d: u32) -> u32 {
     }
 }
 
+/// Two polynomials that are alike as far as wanted, and then known to any lengths.
 fn small(random: &mut Random, report: &mut Report, i: u32) {
     let (p, d, n) = (random.prime(), random.degree().clamp(1, 12), random.columns().clamp(2, 24));
-    let f = polynomials::any(random, report, p, d, n);
+    let f = polynomials::known(random, report, p, d, n);
     let m = if random.once_in(2) { n } else { random.within(1, 24) };
     let g = match i % 4 {
         0 => with_columns(random, &f, m),
@@ -116,12 +120,13 @@ fn small(random: &mut Random, report: &mut Report, i: u32) {
             let parted = parting(random, &f, t);
             with_columns(random, &parted, m)
         }
-        2 => polynomials::any(random, report, p, d, m),
+        2 => polynomials::known(random, report, p, d, m),
         _ => {
             let d = other_degree(random, d);
-            polynomials::any(random, report, p, d, m)
+            polynomials::known(random, report, p, d, m)
         }
     };
+    let [f, g] = [f, g].map(|known| polynomials::with_lengths(random, report, &known));
     compare(random, report, &f, &g);
 }
 

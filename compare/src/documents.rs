@@ -1,5 +1,5 @@
 //! Document 01's examples, by the words that it prints, and what document 02 changes in them: the sheet that F-8 makes smaller, the moduli of F-2, the one call for
-//! the pair of F-4, the quotient of F-5.
+//! the pair of F-4, the quotient of F-5, the known lengths of F-9.
 
 use crate::random::Random;
 use crate::report::{engine, Outcome, Report};
@@ -17,34 +17,49 @@ fn the_job(report: &mut Report) {
     example(report, "the job", String::from_utf8(listing::text(&job)), Ok(text.to_string()));
 
     let f = [6, 6, 0, 0, 0, 0, 1, 0, 0];
-    let mut words = [0; 29];
-    example(report, "into T − 1 words", engine(sheet::open(7, 2, 3, &f, &[1, 6], &mut words[..28])), Err((10, 29)));
-    example(report, "its sheet", engine(sheet::open(7, 2, 3, &f, &[1, 6], &mut words)), Ok(29));
-    example(report, "T − 1 words extended", engine(sheet::extend(&mut words[..28], 2)), Err((13, 0)));
+    let mut words = [0; 32];
+    example(report, "into T − 1 words", engine(sheet::open(7, 2, 3, &f, &[3, 3], &[1, 6], &mut words[..31])), Err((10, 32)));
+    example(report, "its sheet", engine(sheet::open(7, 2, 3, &f, &[3, 3], &[1, 6], &mut words)), Ok(32));
+    example(report, "T − 1 words extended", engine(sheet::extend(&mut words[..31], 2)), Err((13, 0)));
     example(report, "w = N + 1", engine(sheet::extend(&mut words, 4)), Err((14, 0)));
     example(report, "w = 0", engine(sheet::extend(&mut words, 0)), Err((14, 0)));
     example(report, "w = N", engine(sheet::extend(&mut words, 3)), Ok(3));
-    example(report, "its factors", &words[23..29], &[6, 3, 1, 1, 4, 6]);
+    example(report, "its factors", &words[26..32], &[6, 3, 1, 1, 4, 6]);
+}
+
+/// The same polynomial, of whose row 0 two terms are known.
+fn known_lengths(report: &mut Report) {
+    let mut words = [0; 32];
+    let opened = engine(sheet::open(7, 2, 3, &[6, 6, 0, 0, 0, 0, 1, 0, 0], &[2, 3], &[1, 6], &mut words));
+    let what = "document 02, F-9: a sheet that is worked to its least length";
+    report.expect(opened == Ok(32) && words[..17] == [7, 2, 3, 1, 2, 13, 17, 26, 32, 32, 2, 2, 3, 1, 1, 6, 1], what);
+    report.expect(engine(sheet::extend(&mut words, 3)) == Err((14, 0)) && engine(sheet::extend(&mut words, 2)) == Ok(2), what);
+    report.expect(words[26..] == [6, 3, 0, 1, 4, 0], what);
+    let what = "document 02, F-9: a sum and a product to the terms known in both";
+    let mut out = [9; 4];
+    report.expect(engine(series::sum(7, 3, &[3, 5, 0], 2, &[1, 1, 6], 3, &mut out)) == Ok(3) && out == [4, 6, 0, 9], what);
+    report.expect(engine(series::product(7, 3, &[3, 5, 0], 2, &[1, 1, 6], 3, &mut out)) == Ok(3) && out == [3, 1, 0, 9], what);
+    report.kind("the known lengths of document 02's F-9");
 }
 
 fn modulo_2(report: &mut Report) {
-    let mut words = [0; 28];
-    example(report, "Y³ + Y² + XY + X modulo 2", engine(sheet::open(2, 3, 2, &[0, 1, 0, 1, 1, 0, 1, 0], &[0, 1], &mut words)), Ok(28));
+    let mut words = [0; 32];
+    example(report, "Y³ + Y² + XY + X modulo 2", engine(sheet::open(2, 3, 2, &[0, 1, 0, 1, 1, 0, 1, 0], &[2; 3], &[0, 1], &mut words)), Ok(32));
     example(report, "its two terms", engine(sheet::extend(&mut words, 2)), Ok(2));
-    example(report, "its powers", &words[10..14], &[0, 2, 1, 1]);
-    example(report, "its factors", &words[22..28], &[0, 1, 0, 0, 1, 0]);
+    example(report, "its powers", &words[14..18], &[0, 2, 1, 1]);
+    example(report, "its factors", &words[26..32], &[0, 1, 0, 0, 1, 0]);
 }
 
 /// Y³ − 1 − X modulo 7: at X = 0 its roots are 1, 2 and 4, and each root c moves by X / 3c².
 fn three_roots(report: &mut Report) {
     let f = [6, 6, 0, 0, 0, 0, 1, 0];
-    let mut words = [0; 30];
-    let opened = |out: &mut [u32]| engine(sheet::open(7, 3, 2, &f, &[1, 2, 4], out));
+    let mut words = [0; 34];
+    let opened = |out: &mut [u32]| engine(sheet::open(7, 3, 2, &f, &[2; 3], &[1, 2, 4], out));
     let what = "document 02, F-8: a sheet of three roots";
-    report.expect(opened(&mut words[..29]) == Err((10, 30)) && opened(&mut words) == Ok(30), what);
-    report.expect(words[..10] == [7, 3, 2, 1, 3, 10, 16, 24, 30, 30], what);
-    report.expect(engine(sheet::extend(&mut words[..29], 2)) == Err((13, 0)) && engine(sheet::extend(&mut words, 2)) == Ok(2), what);
-    report.expect(words[24..] == [6, 2, 5, 4, 3, 1], what);
+    report.expect(opened(&mut words[..33]) == Err((10, 34)) && opened(&mut words) == Ok(34), what);
+    report.expect(words[..14] == [7, 3, 2, 1, 3, 14, 20, 28, 34, 34, 2, 2, 2, 2], what);
+    report.expect(engine(sheet::extend(&mut words[..33], 2)) == Err((13, 0)) && engine(sheet::extend(&mut words, 2)) == Ok(2), what);
+    report.expect(words[28..] == [6, 2, 5, 4, 3, 1], what);
     report.kind("the sheet of document 02's F-8");
 }
 
@@ -65,7 +80,7 @@ fn moduli(report: &mut Report) {
     example(report, "p = 91", judged(91), Err((2, 7)));
     example(report, "p = 65,521", judged(65521), Ok(0));
     example(report, "p = 65,535", judged(65535), Err((2, 3)));
-    example(report, "Y² − 1 with root 1 alone", engine(sheet::open(7, 2, 1, &[6, 0, 1], &[1], &mut [0; 64])), Err((9, 0)));
+    example(report, "Y² − 1 with root 1 alone", engine(sheet::open(7, 2, 1, &[6, 0, 1], &[1, 1], &[1], &mut [0; 64])), Err((9, 0)));
 }
 
 fn larger_moduli(report: &mut Report) {
@@ -89,15 +104,16 @@ fn power_of_y(d: u32, n: u32, room: usize) -> Outcome {
     let width = n as usize;
     let mut f = vec![0; (d as usize + 1) * width];
     f[d as usize * width] = 1;
-    engine(sheet::open(7, d, n, &f, &[0], &mut vec![0; room]))
+    engine(sheet::open(7, d, n, &f, &vec![n; d as usize], &[0], &mut vec![0; room]))
 }
 
 fn limits(report: &mut Report) {
-    example(report, "D = 32 and N = 256", power_of_y(32, 256, 20_000), Ok(12 + 65 * 256));
+    let total = 11 + 32 + 2 + 65 * 256;
+    example(report, "D = 32 and N = 256", power_of_y(32, 256, 20_000), Ok(total));
     example(report, "D = 33", power_of_y(33, 256, 20_000), Err((3, 0)));
     example(report, "N = 257", power_of_y(32, 257, 20_000), Err((4, 0)));
     example(report, "both, and too short", power_of_y(33, 257, 0), Err((3, 0)));
-    example(report, "too short", power_of_y(32, 256, 12 + 65 * 256 - 1), Err((10, 12 + 65 * 256)));
+    example(report, "too short", power_of_y(32, 256, total as usize - 1), Err((10, total)));
 }
 
 pub fn run(_: &mut Random, report: &mut Report) {
@@ -109,4 +125,5 @@ pub fn run(_: &mut Random, report: &mut Report) {
     limits(report);
     three_roots(report);
     the_quotient(report);
+    known_lengths(report);
 }

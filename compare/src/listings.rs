@@ -36,7 +36,7 @@ impl Kind {
         }
     }
 
-    /// The file's fields: p, D, N, r, two byte offsets, roots, rows.
+    /// The file's fields: p, D, N, r, two byte offsets, roots, rows, all of them known.
     fn fields(self, given: &Given) -> Vec<u32> {
         let r = given.roots.len() as u32;
         let mut all = vec![given.p, given.d, given.n, r, self.head(), self.head() + self.size() * r];
@@ -90,7 +90,7 @@ fn spoil_first_word(random: &mut Random, report: &mut Report, kind: Kind, file: 
 fn job(random: &mut Random, report: &mut Report) -> Vec<u8> {
     let (p, d, n) = (random.prime(), random.degree().clamp(1, 13), random.columns().min(65));
     let kind = if p > 65535 || random.once_in(2) { Kind::Wide } else { Kind::Narrow };
-    let mut fields = kind.fields(&polynomials::any(random, report, p, d, n));
+    let mut fields = kind.fields(&polynomials::known(random, report, p, d, n));
     let mut faults = random.pick(&[0, 0, 0, 1, 1, 2, 3]);
     while faults > 0 && fields[4] >= kind.head() && fields[5] >= kind.head() {
         spoil_field(random, report, kind, &mut fields);
@@ -139,7 +139,7 @@ fn compare(random: &mut Random, report: &mut Report, job: &[u8]) {
 
 /// Y² − 1 − X modulo p, three terms.
 fn square_root(p: u32) -> Given {
-    Given { p, d: 2, n: 3, f: vec![p - 1, p - 1, 0, 0, 0, 0, 1, 0, 0], roots: vec![1, p - 1] }
+    Given { p, d: 2, n: 3, f: vec![p - 1, p - 1, 0, 0, 0, 0, 1, 0, 0], lengths: vec![3; 2], roots: vec![1, p - 1] }
 }
 
 /// What can be wrong with the fields of that job, in the order of refusals. (The length is the last of those that give 5.)
@@ -195,7 +195,7 @@ fn longest(random: &mut Random, report: &mut Report) {
     };
     let factors: Vec<_> = roots.iter().map(|&root| factor(random, root)).collect();
     let f = words(&product_of_all(p as u64, n, &factors));
-    let mut file = Kind::Wide.bytes(&Kind::Wide.fields(&Given { p, d: 12, n: n as u32, f, roots }));
+    let mut file = Kind::Wide.bytes(&Kind::Wide.fields(&Given { p, d: 12, n: n as u32, f, lengths: vec![n as u32; 12], roots }));
     let text = second::listing::text(&file);
     report.expect(file.len() == 3402 && text.len() == 7267, &format!("the longest file has {} bytes, and its listing {}", file.len(), text.len()));
     report.kind("job: the longest file and the longest listing, 3,402 and 7,267 bytes");

@@ -5,6 +5,7 @@
 mod demand_3;
 mod documents;
 mod extensions;
+mod lengths;
 mod listings;
 mod numbers;
 mod old_layout;
@@ -24,7 +25,7 @@ use std::process::exit;
 
 type Section = fn(&mut Random, &mut Report);
 
-const SECTIONS: [Section; 12] = [
+const SECTIONS: [Section; 13] = [
     documents::run,
     numbers::run,
     series::run,
@@ -37,6 +38,7 @@ const SECTIONS: [Section; 12] = [
     demand_3::run,
     reading::run,
     quotients::run,
+    lengths::run,
 ];
 
 fn seeds() -> Vec<u64> {

@@ -1,5 +1,5 @@
-//! Sheets in document 01's layout, in which the lower rows of cofactors 1 to r − 2 came after the factors, word 8 was where they began, and word 9 where they
-//! ended. Those of one or two roots have no such rows, and are sound; those of three roots or more are not.
+//! Sheets in the layouts of before F-9, in which the roots came after ten header words; none of them is sound. In document 01's, the lower rows of cofactors 1 to
+//! r − 2 came after the factors, word 8 was where they began, and word 9 where they ended. F-8 took these out. So the two are the same for one or two roots.
 
 use crate::polynomials::Given;
 use crate::random::Random;
@@ -34,16 +34,16 @@ const STORED: [Stored; 15] = stored![
     8 "eight_roots_with_powers"
 ];
 
-/// Whether an old sheet with so many roots is sound.
-fn still_sound(roots: usize) -> bool {
-    roots <= 2
+/// Whether document 01's layout of a sheet with so many roots is another one than F-8's.
+fn has_cofactors(roots: usize) -> bool {
+    roots > 2
 }
 
 fn words(text: &str) -> Vec<u32> {
     text.split_whitespace().map(|word| word.parse().expect("a stored sheet is made of numbers")).collect()
 }
 
-/// The factors, with their leading 1.
+/// The factors of a sheet in F-8's layout, with their leading 1.
 fn factors(sheet: &[u32]) -> Vec<Polynomial> {
     let n = sheet[2] as usize;
     let mut rows = polynomial(&sheet[sheet[7] as usize..sheet[8] as usize], n).into_iter();
@@ -51,7 +51,7 @@ fn factors(sheet: &[u32]) -> Vec<Polynomial> {
     powers.map(|m| rows.by_ref().take(m).chain([constant(1, n)]).collect()).collect()
 }
 
-/// A sheet as document 01 lays it out: cofactor i is the product of the factors after the i-th.
+/// A sheet in F-8's layout as document 01 lays it out: cofactor i is the product of the factors after the i-th.
 fn with_cofactors(sheet: &[u32]) -> Vec<u32> {
     let (p, n, k, total) = (sheet[0] as u64, sheet[2] as usize, sheet[3] as usize, sheet[9] as usize);
     let factors = factors(sheet);
@@ -69,11 +69,27 @@ fn without_cofactors(old: &[u32]) -> Vec<u32> {
     sheet
 }
 
-/// What the sheet was opened with.
+/// Today's sheet of one in F-8's layout, all of whose rows are known: the least length and the lengths come before the roots.
+fn with_lengths(old: &[u32]) -> Vec<u32> {
+    let (d, n) = (old[1], old[2]);
+    let mut sheet = [&old[..10], &vec![n; 1 + d as usize], &old[10..]].concat();
+    sheet[5..10].iter_mut().for_each(|place| *place += 1 + d);
+    sheet
+}
+
+fn without_lengths(sheet: &[u32]) -> Vec<u32> {
+    let (d, roots, total) = (sheet[1], sheet[5] as usize, sheet[9] as usize);
+    let mut old = [&sheet[..10], &sheet[roots..total]].concat();
+    old[5..10].iter_mut().for_each(|place| *place -= 1 + d);
+    old
+}
+
+/// What today's sheet was opened with.
 fn given(sheet: &[u32]) -> Given {
-    let [p, d, n, _, _, roots, rows, factors, ..] = *sheet else { unreachable!("ten words") };
-    let roots = sheet[roots as usize..rows as usize].chunks(2).map(|entry| entry[0]).collect();
-    Given { p, d, n, f: sheet[rows as usize..factors as usize].to_vec(), roots }
+    let [p, d, n, _, _, roots, rows, factors, ..] = *sheet else { unreachable!("eleven words") };
+    let [roots, rows, factors] = [roots, rows, factors].map(|place| place as usize);
+    let entries = sheet[roots..rows].chunks(2).map(|entry| entry[0]);
+    Given { p, d, n, f: sheet[rows..factors].to_vec(), lengths: sheet[11..roots].to_vec(), roots: entries.collect() }
 }
 
 /// Extended to N it is what a fresh sheet of its polynomial is, extended to N.
@@ -87,10 +103,14 @@ fn expect_kept(random: &mut Random, report: &mut Report, name: &str, sheet: &[u3
     report.expect(extended.outcome == Ok(n) && extended.words == expected.words, &format!("{name} extends to a fresh sheet's words"));
 }
 
+/// Also where more words follow, as many as today's layout has more.
 fn expect_spoiled(report: &mut Report, name: &str, sheet: &[u32]) {
-    let (n, k) = (sheet[2], sheet[3]);
-    let sound = test(report, sheet);
-    report.expect(!sound, &format!("{name} is not sound: {sheet:?}"));
+    let (d, n, k) = (sheet[1] as usize, sheet[2], sheet[3]);
+    let longer = [sheet, &vec![n; 1 + d]].concat();
+    for sheet in [sheet, &longer] {
+        let sound = test(report, sheet);
+        report.expect(!sound, &format!("{name} is not sound: {sheet:?}"));
+    }
     for w in [k, n, 0, n + 1] {
         let outcome = extend(report, sheet, w).outcome;
         report.expect(outcome == Err((13, 0)), &format!("{name} is refused by 13 for {w} terms: {sheet:?}"));
@@ -99,31 +119,29 @@ fn expect_spoiled(report: &mut Report, name: &str, sheet: &[u32]) {
 
 fn stored(random: &mut Random, report: &mut Report, (name, roots, text): Stored) {
     let old = words(text);
-    let today = without_cofactors(&old);
+    let without = without_cofactors(&old);
     report.expect(old[4] as usize == roots, &format!("{name} is a sheet of {roots} roots"));
-    report.expect(with_cofactors(&today) == old, &format!("{name} is laid out as in document 01"));
-    if still_sound(roots) {
-        expect_kept(random, report, name, &old);
-        report.kind("old layout: a stored sheet of one or two roots");
+    report.expect(with_cofactors(&without) == old, &format!("{name} is laid out as in document 01"));
+    expect_spoiled(report, name, &old);
+    expect_spoiled(report, &format!("{name} without its cofactors"), &without);
+    expect_kept(random, report, &format!("{name} with lengths"), &with_lengths(&without));
+    report.kind(if has_cofactors(roots) {
+        "old layout: a stored sheet of three roots or more"
     } else {
-        expect_spoiled(report, name, &old);
-        expect_kept(random, report, &format!("{name} without its cofactors"), &today);
-        report.kind("old layout: a stored sheet of three roots or more");
-    }
+        "old layout: a stored sheet of one or two roots"
+    });
 }
 
-/// A sound sheet of today, laid out as in document 01. With word 9 set right its cofactors are words past the end, which are free.
+/// A sound sheet of today, laid out as by F-8 and as in document 01.
 pub fn fresh(report: &mut Report, sheet: &[u32]) {
-    let mut old = with_cofactors(sheet);
-    if still_sound(sheet[4] as usize) {
-        report.expect(old == sheet[..old.len()], "one or two roots have no cofactors");
-        report.kind("old layout: a fresh sheet of one or two roots");
+    let old = without_lengths(sheet);
+    expect_spoiled(report, "F-8's layout", &old);
+    if has_cofactors(sheet[4] as usize) {
+        report.kind("old layout: a sheet without lengths, of three roots or more");
+        expect_spoiled(report, "document 01's layout", &with_cofactors(&old));
+        report.kind("old layout: a sheet without lengths and with cofactors");
     } else {
-        expect_spoiled(report, "document 01's layout", &old);
-        old[9] = old[8];
-        let sound = test(report, &old);
-        report.expect(sound, &format!("words past the end are free: {old:?}"));
-        report.kind("old layout: a fresh sheet of three roots or more");
+        report.kind("old layout: a sheet without lengths, of one or two roots");
     }
 }
 

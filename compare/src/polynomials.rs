@@ -1,15 +1,37 @@
-//! Monic polynomials that split at X = 0 as wanted.
+//! Monic polynomials that split at X = 0 as wanted, with the lengths to which their rows are known.
 
 use crate::random::Random;
 use crate::report::Report;
 
-#[derive(Clone)]
+#[derive(Clone, Debug)]
 pub struct Given {
     pub p: u32,
     pub d: u32,
     pub n: u32,
     pub f: Vec<u32>,
+    /// Of the rows below the top one.
+    pub lengths: Vec<u32>,
     pub roots: Vec<u32>,
+}
+
+impl Given {
+    /// The least length.
+    pub fn reach(&self) -> u32 {
+        *self.lengths.iter().min().expect("there is a row below the top one")
+    }
+
+    /// The same, known to these lengths only: with 0 past them.
+    pub fn cut(&self, lengths: Vec<u32>) -> Given {
+        let mut cut = Given { lengths, ..self.clone() };
+        let rows = cut.f.chunks_mut(cut.n as usize).zip(&cut.lengths);
+        rows.for_each(|(row, &length)| row[length as usize..].fill(0));
+        cut
+    }
+
+    /// The same words, all of them known.
+    pub fn all_known(&self) -> Given {
+        Given { lengths: vec![self.n; self.d as usize], ..self.clone() }
+    }
 }
 
 /// Π (Y − c_i)^(m_i), lowest coefficient first.
@@ -50,7 +72,68 @@ fn powers(random: &mut Random, d: u32, count: u32) -> Vec<u32> {
     powers
 }
 
-/// f of degree d with n columns and this many roots: at X = 0 as they say, elsewhere at random.
+/// This length in one row, and greater ones in the others, where there are any.
+fn least_in(random: &mut Random, d: u32, n: u32, least: u32, row: u32) -> Vec<u32> {
+    let more = (least + 1).min(n);
+    (0..d).map(|j| if j == row { least } else { random.within(more, n) }).collect()
+}
+
+/// Lengths from 1 to n, no two alike as long as there are others.
+fn unlike(random: &mut Random, d: u32, n: u32) -> Vec<u32> {
+    let mut left: Vec<u32> = Vec::new();
+    let mut draw = || {
+        if left.is_empty() {
+            left.extend(1..=n);
+        }
+        left.swap_remove(random.below(left.len() as u32) as usize)
+    };
+    (0..d).map(|_| draw()).collect()
+}
+
+/// Lengths of every kind for d rows of n columns.
+fn lengths(random: &mut Random, d: u32, n: u32) -> Vec<u32> {
+    let least = random.known(n);
+    match random.below(6) {
+        0 | 1 => vec![n; d as usize],
+        2 => vec![least; d as usize],
+        3 => least_in(random, d, n, least, 0),
+        4 => least_in(random, d, n, least, d - 1),
+        _ => unlike(random, d, n),
+    }
+}
+
+fn note_lengths(report: &mut Report, given: &Given) {
+    let Given { n, lengths, .. } = given;
+    let least = given.reach();
+    let first = lengths.iter().position(|&length| length == least);
+    let last = lengths.iter().rposition(|&length| length == least);
+    let several = lengths.len() > 1;
+    let kinds = [
+        (least == *n, "lengths: all N"),
+        (least < *n && lengths.iter().all(|&length| length == least), "lengths: all alike, below N"),
+        (several && (1..lengths.len()).all(|j| !lengths[..j].contains(&lengths[j])), "lengths: all unlike"),
+        (least == 1 && *n > 1, "lengths: the least is 1"),
+        (least + 1 == *n, "lengths: the least is N − 1"),
+        (several && last == Some(0), "lengths: the least in the first row alone"),
+        (several && first == Some(lengths.len() - 1), "lengths: the least in the last row alone"),
+    ];
+    kinds.iter().filter(|(holds, _)| *holds).for_each(|(_, kind)| report.kind(kind));
+}
+
+/// The same polynomial, its rows known to lengths of any kind.
+pub fn with_lengths(random: &mut Random, report: &mut Report, given: &Given) -> Given {
+    let cut = given.cut(lengths(random, given.d, given.n));
+    note_lengths(report, &cut);
+    cut
+}
+
+/// The same, with lengths from `least` up, `least` among them.
+pub fn with_reach(random: &mut Random, given: &Given, least: u32) -> Given {
+    let row = random.below(given.d);
+    given.cut(least_in(random, given.d, given.n, least, row))
+}
+
+/// f of degree d with n columns and this many roots: at X = 0 as they say, elsewhere at random, and all of it known.
 pub fn with_roots(random: &mut Random, report: &mut Report, p: u32, d: u32, n: u32, count: u32) -> Given {
     let roots = roots(random, p, count);
     let powers = powers(random, d, count);
@@ -66,11 +149,18 @@ pub fn with_roots(random: &mut Random, report: &mut Report, p: u32, d: u32, n: u
     for (j, c) in product(p, &roots, &powers).into_iter().enumerate() {
         f[j * width] = c;
     }
-    Given { p, d, n, f, roots }
+    Given { p, d, n, f, lengths: vec![n; d as usize], roots }
 }
 
-pub fn any(random: &mut Random, report: &mut Report, p: u32, d: u32, n: u32) -> Given {
+/// With any number of roots, and all of it known.
+pub fn known(random: &mut Random, report: &mut Report, p: u32, d: u32, n: u32) -> Given {
     let most = d.min(p);
     let count = if random.once_in(4) { most } else { random.within(1, most.min(5)) };
     with_roots(random, report, p, d, n, count)
+}
+
+/// With any number of roots, and any lengths.
+pub fn any(random: &mut Random, report: &mut Report, p: u32, d: u32, n: u32) -> Given {
+    let known = known(random, report, p, d, n);
+    with_lengths(random, report, &known)
 }

@@ -45,8 +45,8 @@ fn quotient(report: &mut Report, case: &Case) -> Called<u32> {
 }
 
 fn product(p: u32, g: &[u32], h: &[u32]) -> Vec<u32> {
-    let mut out = vec![0; g.len()];
-    s::product(p, g.len() as u32, g, h, &mut out).expect("series of one length");
+    let (mut out, n) = (vec![0; g.len()], g.len() as u32);
+    s::product(p, n, g, n, h, n, &mut out).expect("series of one length");
     out
 }
 

@@ -81,6 +81,17 @@ impl Random {
         }
     }
 
+    /// How many of n terms are known: all of them, the first, all but the last, or any number.
+    pub fn known(&mut self, n: u32) -> u32 {
+        let any = self.within(1, n);
+        self.pick(&[n, n, 1, (n - 1).max(1), any, any])
+    }
+
+    /// A count of known terms that row 21 refuses.
+    pub fn bad_known(&mut self, n: u32) -> u32 {
+        self.pick(&[0, n.wrapping_add(1), u32::MAX])
+    }
+
     /// The length of an output that needs so many words: enough, a few more, or too short.
     pub fn room(&mut self, needed: usize) -> usize {
         match self.below(8) {

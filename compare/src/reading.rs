@@ -47,7 +47,7 @@ fn shift(report: &mut Report, case: &Case) -> Outcome {
 }
 
 fn power(sheet: &[u32], i: u32) -> u32 {
-    sheet[11 + 2 * i as usize]
+    sheet[sheet[5] as usize + 2 * i as usize + 1]
 }
 
 /// A case with a factor that is there, and with nothing to refuse but perhaps the output, which has no words yet. Once in four times the bounds of the
@@ -160,7 +160,7 @@ pub fn run(random: &mut Random, report: &mut Report) {
         let (p, d, n) = (random.prime(), random.degree().clamp(1, 12), random.columns().clamp(2, 24));
         let given = polynomials::any(random, report, p, d, n);
         let fresh = opened(random, report, &given);
-        let k = random.within(1, n);
+        let k = random.within(1, given.reach());
         let sheet = extend(report, &fresh, k).words;
         boundaries(random, report, &sheet);
     }

@@ -1,5 +1,6 @@
 //! Factor sheets: opened, worked on in goes, and damaged word by word.
 
+use crate::lengths;
 use crate::old_layout;
 use crate::polynomials::{self, Given};
 use crate::random::Random;
@@ -13,16 +14,31 @@ enum Fault {
     Modulus,
     Degree,
     Terms,
-    Length,
+    Rows,
+    Lengths,
     Word,
     Root,
+    Length,
+    PastLength,
     Monic,
     Roots,
     Split,
 }
 
-const FAULTS: [Fault; 9] =
-    [Fault::Modulus, Fault::Degree, Fault::Terms, Fault::Length, Fault::Word, Fault::Root, Fault::Monic, Fault::Roots, Fault::Split];
+const FAULTS: [Fault; 12] = [
+    Fault::Modulus,
+    Fault::Degree,
+    Fault::Terms,
+    Fault::Rows,
+    Fault::Lengths,
+    Fault::Word,
+    Fault::Root,
+    Fault::Length,
+    Fault::PastLength,
+    Fault::Monic,
+    Fault::Roots,
+    Fault::Split,
+];
 
 fn spoil_roots(random: &mut Random, roots: &mut Vec<u32>, d: u32) {
     match random.below(4) {
@@ -33,14 +49,34 @@ fn spoil_roots(random: &mut Random, roots: &mut Vec<u32>, d: u32) {
     }
 }
 
+/// A list of lengths that is too short, too long, or empty.
+fn spoil_lengths(random: &mut Random, lengths: &mut Vec<u32>) {
+    match random.below(3) {
+        0 => drop(lengths.pop()),
+        1 => lengths.push(1),
+        _ => lengths.clear(),
+    }
+}
+
+/// A word past the length of a row, where it has one.
+fn spoil_past_length(random: &mut Random, given: &mut Given) {
+    let rows = given.f.chunks_mut(given.n.clamp(1, 256) as usize).zip(&given.lengths);
+    let mut past: Vec<&mut u32> = rows.flat_map(|(row, &length)| row.iter_mut().skip(length as usize)).collect();
+    if !past.is_empty() {
+        let at = random.below(past.len() as u32) as usize;
+        *past[at] = 1;
+    }
+}
+
 fn spoil(random: &mut Random, given: &mut Given, fault: Fault) {
     let any = random.next() as usize;
     match fault {
         Fault::Modulus => given.p = random.bad_modulus(),
         Fault::Degree => given.d = random.pick(&[0, 33, u32::MAX, 1 << 31]),
         Fault::Terms => given.n = random.pick(&[0, 257, u32::MAX]),
-        Fault::Length if random.once_in(2) => given.f.push(0),
-        Fault::Length => drop(given.f.pop()),
+        Fault::Rows if random.once_in(2) => given.f.push(0),
+        Fault::Rows => drop(given.f.pop()),
+        Fault::Lengths => spoil_lengths(random, &mut given.lengths),
         Fault::Word if !given.f.is_empty() => {
             let at = any % given.f.len();
             given.f[at] = random.edge_word(given.p);
@@ -49,6 +85,11 @@ fn spoil(random: &mut Random, given: &mut Given, fault: Fault) {
             let at = any % given.roots.len();
             given.roots[at] = random.edge_word(given.p);
         }
+        Fault::Length if !given.lengths.is_empty() => {
+            let at = any % given.lengths.len();
+            given.lengths[at] = random.bad_known(given.n);
+        }
+        Fault::PastLength => spoil_past_length(random, given),
         Fault::Monic if !given.f.is_empty() => {
             let top = given.f.len().saturating_sub(given.n.clamp(1, 256) as usize);
             let at = top + any % (given.f.len() - top);
@@ -61,16 +102,17 @@ fn spoil(random: &mut Random, given: &mut Given, fault: Fault) {
     }
 }
 
-/// T of the sheet: ten header words, roots with powers, D + 1 rows of the polynomial and D of the factors.
-fn total(given: &Given) -> u32 {
-    10 + 2 * given.roots.len() as u32 + (2 * given.d + 1) * given.n
+/// T of the sheet: eleven header words, the lengths, roots with powers, D + 1 rows of the polynomial and D of the factors.
+pub fn total(given: &Given) -> u32 {
+    11 + given.d + 2 * given.roots.len() as u32 + (2 * given.d + 1) * given.n
 }
 
-fn open(report: &mut Report, given: &Given, out: &[u32]) -> Called<u32> {
-    let Given { p, d, n, f, roots } = given;
+pub fn open(report: &mut Report, given: &Given, out: &[u32]) -> Called<u32> {
+    let Given { p, d, n, f, lengths, roots } = given;
     let (p, d, n) = (*p, *d, *n);
-    let input = || format!("p {p} d {d} n {n} f {f:?} roots {roots:?}");
-    report.call("sheet open", input, &[f, roots], out, |o| engine(e::open(p, d, n, f, roots, o)), |o| second(s::open(p, d, n, f, roots, o)))
+    let input = || format!("p {p} d {d} n {n} f {f:?} lengths {lengths:?} roots {roots:?}");
+    let mine = |o: &mut [u32]| engine(e::open(p, d, n, f, lengths, roots, o));
+    report.call("sheet open", input, &[f, lengths, roots], out, mine, |o| second(s::open(p, d, n, f, lengths, roots, o)))
 }
 
 pub fn extend(report: &mut Report, sheet: &[u32], w: u32) -> Called<u32> {
@@ -91,7 +133,8 @@ pub fn opened(random: &mut Random, report: &mut Report, given: &Given) -> Vec<u3
     let exact = open(report, given, &out[..total as usize]).outcome;
     let sheet = open(report, given, &out).words;
     report.expect(short == Err((10, total)) && exact == Ok(total), &format!("a sheet takes {total} words: {sheet:?}"));
-    report.expect(sheet[8..10] == [total, total], &format!("header words 8 and 9 are {total}: {sheet:?}"));
+    report.expect(sheet[8..11] == [total, total, given.reach()], &format!("header words 8 to 10 are T, T and the least length: {sheet:?}"));
+    report.expect(sheet[11..].starts_with(&given.lengths), &format!("the lengths come after the header: {sheet:?}"));
     report.kind("sheet: opened into T − 1 words and into T");
     sheet
 }
@@ -119,11 +162,13 @@ struct Calls {
     w: Vec<u32>,
 }
 
-fn calls(random: &mut Random, sheet: &[u32]) -> Calls {
-    let (total, n, length) = (sheet[9], sheet[2], sheet.len() as u32);
+/// Of a sheet of what was given, in so many words.
+fn calls(random: &mut Random, given: &Given, length: u32) -> Calls {
+    let (total, n, reach) = (total(given), given.n, given.reach());
     let count = random.below(7) as usize;
-    let lent = (0..count).map(|_| random.pick(&[length, length, length, total, total - 1, total / 2, 9, 0])).collect();
-    let w = (0..count).map(|_| if random.once_in(6) { random.pick(&[0, n + 1, u32::MAX]) } else { random.within(1, n) }).collect();
+    let lent = (0..count).map(|_| random.pick(&[length, length, length, total, total - 1, total / 2, 10, 0])).collect();
+    let outside = [0, reach + 1, n, n + 1, u32::MAX]; // n where the reach is less
+    let w = (0..count).map(|_| if random.once_in(5) { random.pick(&outside) } else { random.within(1, reach) }).collect();
     Calls { lent, w }
 }
 
@@ -136,20 +181,23 @@ fn spoil_calls(random: &mut Random, calls: &mut Calls, length: u32) {
     }
 }
 
-/// The calls one by one, then the same list by one call, then the plain count: all must agree.
-pub fn several_goes(random: &mut Random, report: &mut Report, fresh: &[u32]) -> Vec<u32> {
-    let calls = calls(random, fresh);
+/// The calls one by one, then the same list by one call, then the plain count, which knows nothing but what open was given: all must agree.
+pub fn several_goes(random: &mut Random, report: &mut Report, given: &Given, fresh: &[u32]) -> Vec<u32> {
+    let calls = calls(random, given, fresh.len() as u32);
     let mut sheet = fresh.to_vec();
     let mut answers = Vec::new();
     for (&words, &to) in calls.lent.iter().zip(&calls.w) {
         if (words as usize) < sheet.len() {
             report.kind("sheet: only its first words lent");
         }
+        if words >= total(given) && given.reach() < to && to <= given.n {
+            report.kind("sheet: a call of a list wants more than the least length, and at most N");
+        }
         let called = extend(report, &sheet[..words as usize], to);
         sheet[..words as usize].copy_from_slice(&called.words);
         answers.extend(called.outcome.map_or_else(|(number, detail)| [number, detail], |terms| [0, terms]));
     }
-    let (expected, terms) = s::plain_count(fresh[9], fresh[2], &calls.lent, &calls.w);
+    let (expected, terms) = s::plain_count(total(given), given.reach(), &calls.lent, &calls.w);
     report.expect(answers == expected && sheet[3] == terms, &format!("the plain count is that of {calls:?} on {fresh:?}"));
     replay(random, report, fresh, &calls, &sheet, &answers);
     report.kind("sheet: worked in several goes");
@@ -183,27 +231,38 @@ fn replay(random: &mut Random, report: &mut Report, fresh: &[u32], calls: &Calls
 
 /// Where a word of a sheet stands.
 fn region(sheet: &[u32], at: usize) -> &'static str {
-    let [_, d, n, k, _, roots, polynomial, factors, _, total] = sheet[..10] else { unreachable!("ten words") };
+    let [_, d, n, k, _, roots, polynomial, factors, _, total, _] = sheet[..11] else { unreachable!("eleven words") };
     let at = at as u32;
-    let known = |from: u32| (at - from) % n < k;
+    let worked = |from: u32| (at - from) % n < k;
     match at {
         0 | 3 => "sheet: p or k changed",
         8 => "sheet: header word 8 changed",
         9 => "sheet: header word 9 changed",
-        _ if at < roots => "sheet: D, N, r or an offset changed",
+        10 => "sheet: header word 10 changed",
+        _ if at < 10 => "sheet: D, N, r or an offset changed",
+        _ if at < roots => "sheet: a length changed",
         _ if at < polynomial => ["sheet: root changed", "sheet: power changed"][(at - roots) as usize % 2],
-        _ if at < polynomial + d * n => ["sheet: polynomial changed from k up", "sheet: polynomial changed below k"][known(polynomial) as usize],
+        _ if at < polynomial + d * n && worked(polynomial) => "sheet: polynomial changed below k",
+        _ if at < polynomial + d * n && past_length(sheet, at - polynomial) => "sheet: polynomial changed past a row's length",
+        _ if at < polynomial + d * n => "sheet: polynomial changed from k up",
         _ if at < factors => "sheet: top row changed",
-        _ if at < total => ["sheet: factor changed from k up", "sheet: factor changed below k"][known(factors) as usize],
+        _ if at < total => ["sheet: factor changed from k up", "sheet: factor changed below k"][worked(factors) as usize],
         _ => "sheet: a word past the end changed",
     }
 }
 
-/// Whether a sound sheet is still sound with another word in this region, where that does not depend on the other words.
-fn verdict(region: &str, p: u32, word: u32) -> Option<bool> {
+/// Whether a word of the polynomial, counted from its first, is past its row's length.
+fn past_length(sheet: &[u32], word: u32) -> bool {
+    let n = sheet[2];
+    word % n >= sheet[11 + (word / n) as usize]
+}
+
+/// Whether a sound sheet is still sound with another word in this region, where that does not depend on the factors.
+fn verdict(region: &str, changed: &[u32], word: u32) -> Option<bool> {
     match region {
         "sheet: p or k changed" => None,
-        "sheet: polynomial changed from k up" => Some(word < p),
+        "sheet: a length changed" => Some(lengths::fit(changed)),
+        "sheet: polynomial changed from k up" => Some(word < changed[0]),
         "sheet: a word past the end changed" => Some(true),
         _ => Some(false),
     }
@@ -211,9 +270,9 @@ fn verdict(region: &str, p: u32, word: u32) -> Option<bool> {
 
 /// A place in a region chosen first, so that small regions come up as often as large ones.
 fn place(random: &mut Random, sheet: &[u32]) -> usize {
-    let edges = [0, sheet[5], sheet[6], sheet[7], sheet[9], sheet.len() as u32];
+    let edges = [0, 10, sheet[5], sheet[6], sheet[7], sheet[9], sheet.len() as u32];
     loop {
-        let i = random.below(5) as usize;
+        let i = random.below(6) as usize;
         if edges[i] < edges[i + 1] {
             return random.within(edges[i], edges[i + 1] - 1) as usize;
         }
@@ -230,7 +289,7 @@ fn judge_changed(random: &mut Random, report: &mut Report, changed: &[u32]) -> b
 }
 
 /// A changed sheet, of which it may be known whether it is sound.
-fn judge_as(random: &mut Random, report: &mut Report, changed: &[u32], expected: Option<bool>, kind: &'static str) -> bool {
+pub fn judge_as(random: &mut Random, report: &mut Report, changed: &[u32], expected: Option<bool>, kind: &'static str) -> bool {
     let sound = judge_changed(random, report, changed);
     report.expect(sound == expected.unwrap_or(sound), &format!("{kind}, so {sound} is the wrong verdict: {changed:?}"));
     report.kind(kind);
@@ -241,14 +300,15 @@ fn change_a_word(random: &mut Random, report: &mut Report, sheet: &[u32]) {
     let mut changed = sheet.to_vec();
     let at = place(random, sheet);
     let (p, reduced) = (sheet[0], random.below(sheet[0]));
-    let old = changed[at];
-    changed[at] = random.pick(&[reduced, reduced, old.wrapping_add(1), old.wrapping_sub(1), 0, 1, p, old.wrapping_add(p), u32::MAX]);
+    let (old, n) = (changed[at], sheet[2]);
+    changed[at] = random.pick(&[reduced, reduced, old.wrapping_add(1), old.wrapping_sub(1), 0, 1, n, p, old.wrapping_add(p), u32::MAX]);
     if changed[at] == old {
         return;
     }
     let region = region(sheet, at);
-    match (region, judge_as(random, report, &changed, verdict(region, p, changed[at]), region)) {
+    match (region, judge_as(random, report, &changed, verdict(region, &changed, changed[at]), region)) {
         ("sheet: p or k changed", true) => report.kind("sheet: p or k changed, still sound"),
+        ("sheet: a length changed", true) => report.kind("sheet: a length changed, still sound"),
         ("sheet: polynomial changed from k up", true) => report.kind("sheet: polynomial changed from k up, still sound"),
         _ => {}
     }
@@ -270,21 +330,21 @@ fn change_total(random: &mut Random, report: &mut Report, sheet: &[u32]) {
 
 /// Two factors of one power exchanged, with their roots or without: the product is still f, but roots do not rise or factors stand by other roots.
 fn exchange_factors(random: &mut Random, report: &mut Report, sheet: &[u32]) {
-    let (n, r, factors) = (sheet[2], sheet[4] as usize, sheet[7]);
-    let power = |i: usize| sheet[11 + 2 * i];
+    let (n, r, roots, factors) = (sheet[2], sheet[4] as usize, sheet[5] as usize, sheet[7]);
+    let power = |i: usize| sheet[roots + 2 * i + 1];
     let rows = |i: usize| (0..i).map(power).sum::<u32>() * n + factors;
     let Some(i) = (1..r).find(|&i| power(i) == power(0)) else { return };
     let mut changed = sheet.to_vec();
     (0..power(0) * n).for_each(|at| changed.swap((rows(0) + at) as usize, (rows(i) + at) as usize));
     if random.once_in(2) {
-        changed.swap(10, 10 + 2 * i);
+        changed.swap(roots, roots + 2 * i);
     }
     judge_as(random, report, &changed, Some(false), "sheet: two factors of one power exchanged");
 }
 
 fn cut_short(random: &mut Random, report: &mut Report, sheet: &[u32]) {
-    let total = sheet[9];
-    let length = random.pick(&[0, 9, 10, 11, 10 + 2 * sheet[4], total - 1, total / 2, total]);
+    let [roots, polynomial, factors, total] = [sheet[5], sheet[6], sheet[7], sheet[9]];
+    let length = random.pick(&[0, 9, 10, 11, roots - 1, roots, polynomial, factors, total - 1, total / 2, total]);
     judge_as(random, report, &sheet[..length as usize], Some(length == total), "sheet: cut short");
 }
 
@@ -322,13 +382,14 @@ fn life_of_a_sheet(random: &mut Random, report: &mut Report, given: &Given, chan
     let fresh = opened(random, report, given);
     let sound = test(report, &fresh);
     report.expect(sound, &format!("an opened sheet is sound: {fresh:?}"));
-    let sheet = several_goes(random, report, &fresh);
+    let sheet = several_goes(random, report, given, &fresh);
     reading::factors(random, report, &sheet);
     for _ in 0..changes {
         change_a_word(random, report, &sheet);
     }
     change_total(random, report, &sheet);
     exchange_factors(random, report, &sheet);
+    lengths::damaged(random, report, &sheet);
     old_layout::fresh(report, &sheet);
     cut_short(random, report, &sheet);
     shorten(random, report, &sheet);
@@ -339,14 +400,17 @@ fn large(random: &mut Random, report: &mut Report) {
     for (p, count) in [(16_777_213, 32), (16_777_213, 2), (65_521, 32), (251, 32), (251, 7), (13, 13), (7, 3), (3, 3), (2, 2), (2, 1)] {
         let given = polynomials::with_roots(random, report, p, 32, 256, count);
         life_of_a_sheet(random, report, &given, 8);
-        let at_once = opened(random, report, &given);
-        extend(report, &at_once, 256);
+        let short = polynomials::with_lengths(random, report, &given);
+        for given in [given, short] {
+            let at_once = opened(random, report, &given);
+            extend(report, &at_once, given.reach());
+        }
     }
 }
 
 /// Y³ splits alike modulo every prime, so its sheet stays sound under every modulus that is allowed, and under no other. 2^24 + 43 is a prime.
 fn every_modulus_for_one_sheet(random: &mut Random, report: &mut Report) {
-    let given = Given { p: 7, d: 3, n: 2, f: vec![0, 0, 0, 0, 0, 0, 1, 0], roots: vec![0] };
+    let given = Given { p: 7, d: 3, n: 2, f: vec![0, 0, 0, 0, 0, 0, 1, 0], lengths: vec![2; 3], roots: vec![0] };
     let mut sheet = opened(random, report, &given);
     let allowed = [65_521, 65_537, 16_777_213].map(|p| (p, true));
     let refused = [65_535, 65_536, 16_777_215, 16_777_216, 16_777_259].map(|p| (p, false));

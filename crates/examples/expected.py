@@ -36,9 +36,13 @@ def say(r,n,ans,buf):
     if r: print(f"refused {r[0]} {r[1]}:",*buf)
     else:
         buf[:len(ans)]=ans; print(f"done {n}:",*buf)
-def series(op,p,n,g,h,buf):
+def unknown(n,known,row): return not 1<=known<=n or any(row[known:])
+def series(op,p,n,g,h,buf,counts=None):
     hs=[h] if h is not None else []
-    r=inputs(p,n,[g]+hs,[0]*(1+len(hs)),0) or ((10,n) if len(buf)<n else None)
+    counts=counts or (n,n)
+    r=inputs(p,n,[g]+hs,[0]*(1+len(hs)),0)
+    if not r and op in('sum','mul') and (unknown(n,counts[0],g) or unknown(n,counts[1],h)): r=(21,0)
+    r=r or ((10,n) if len(buf)<n else None)
     div=h if op=='div' else g
     known=n
     if not r and op=='inv' and div[0]==0: r=(12,0)
@@ -52,6 +56,7 @@ def series(op,p,n,g,h,buf):
         if op=='sum': a=[(x+y)%p for x,y in zip(g,h)]
         if op=='diff': a=[(x-y)%p for x,y in zip(g,h)]
         if op=='mul': a=[sum(g[i]*h[t-i] for i in range(t+1))%p for t in range(n)]
+        if op in('sum','mul'): a=[x if t<counts[0] and t<counts[1] else 0 for t,x in enumerate(a)]
         if op in('div','inv'):
             if op=='inv': f=[1]+[0]*(n-1)
             d=div; a=[]
@@ -60,6 +65,10 @@ def series(op,p,n,g,h,buf):
     say(r,known,a,buf)
 g=[1,2,3];h=[4,5,6];buf=[9]*4
 series('sum',7,3,g,h,buf);series('diff',7,3,g,h,buf);series('mul',7,3,g,h,buf);series('div',7,3,g,h,buf);series('inv',7,3,h,None,buf)
+buf=[9]*4;short=[9]*2
+a,b=[1,2,0],[3,2,1]
+series('sum',7,3,a,b,buf,(2,3));series('mul',7,3,a,b,buf,(2,3));series('mul',7,3,b,a,buf,(3,2));series('mul',7,3,a,b,buf,(2,2))
+series('sum',7,3,a,b,buf,(0,3));series('sum',7,3,a,b,buf,(3,4));series('mul',7,3,a,b,short,(1,3));series('mul',7,3,[3,7,0],b,short,(1,3))
 buf=[9]*4
 for a,b in ([0,1,1],[0,1,0]),([0,0,0],[0,5,6]),([0,0,6],[0,0,2]),([0,0,6],[0,5,6]),([0,0,0],[0,0,0]): series('div',7,3,a,b,buf)
 zero=[0,5,6];large=[4,9,7];buf=[9]*4;short=[9]*2
@@ -172,23 +181,26 @@ def factors(p,D,n,f,roots,powers,k):
         x=solve(p,M,[(F[e][t]-base[e])%p for e in range(D)])
         for (i,j),v in zip(cols,x): fac[i][t][j]=v
     return fac
-def sheet(p,D,n,f,roots,powers,k):
+def sheet(p,D,n,f,roots,powers,k,lengths=None):
+    lengths=lengths or [n]*D
     fac=factors(p,D,n,f,roots,powers,k); r=len(roots)
     fr=[fac[i][t][j] if t<k else 0 for i in range(r) for j in range(powers[i]) for t in range(n)]
-    o6=10+2*r; o7=o6+(D+1)*n; T=o7+len(fr)
-    return [p,D,n,k,r,10,o6,o7,T,T]+sum(([c,m] for c,m in zip(roots,powers)),[])+f+fr
+    o5=11+D; o6=o5+2*r; o7=o6+(D+1)*n; T=o7+len(fr)
+    return [p,D,n,k,r,o5,o6,o7,T,T,min(lengths)]+lengths+sum(([c,m] for c,m in zip(roots,powers)),[])+f+fr
 def compositions(D,r):
     if r==0: return [[]] if D==0 else []
     return [[m]+rest for m in range(1,D+1) for rest in compositions(D-m,r-1)]
-def opened(p,D,n,f,roots,room):
+def opened(p,D,n,f,roots,room,lengths=None):
+    lengths=lengths if lengths is not None else [n]*D
     """the refusal, or the sheet with one term; the powers by trying all"""
     r=mod(p)
     if r: return r,None
     if not 1<=D<=32: return (3,0),None
     if not 1<=n<=256: return (4,0),None
-    if len(f)!=(D+1)*n: return (5,0),None
+    if len(f)!=(D+1)*n or len(lengths)!=D: return (5,0),None
     for i,x in enumerate(f+roots):
         if x>=p: return (6,i),None
+    if any(unknown(n,m,row) for m,row in zip(lengths,rows(f,n))): return (21,0),None
     if f[D*n:]!=[1]+[0]*(n-1): return (7,0),None
     if not 1<=len(roots)<=D or any(a>=b for a,b in zip(roots,roots[1:])): return (8,0),None
     for powers in compositions(D,len(roots)):
@@ -196,39 +208,43 @@ def opened(p,D,n,f,roots,room):
         for c,m in zip(roots,powers):
             for _ in range(m): a=polymul(p,a,[-c%p,1])
         if a==f[::n]:
-            s=sheet(p,D,n,f,roots,powers,1)
+            s=sheet(p,D,n,f,roots,powers,1,lengths)
             return ((10,len(s)),None) if room<len(s) else (None,s)
     return (9,0),None
-def opens(p,D,n,f,roots,buf):
-    r,s=opened(p,D,n,f,roots,len(buf))
+def opens(p,D,n,f,roots,buf,lengths=None):
+    r,s=opened(p,D,n,f,roots,len(buf),lengths)
     say(r,s and len(s),s,buf)
 job=(7,2,3,[6,6,0,0,0,0,1,0,0],[1,6],[1,1])
 three=(5,4,4,[0,1,2,3,2,4,0,1,2,0,3,0,0,2,2,2,1,0,0,0],[0,1,3],[1,2,1])
-opens(*job[:5],[99]*28)
-opens(*job[:5],[99]*30)
+opens(*job[:5],[99]*31)
+opens(*job[:5],[99]*33)
 print("sound")
 for k,w in ((2,2),(3,3)): print(f"done {w}:",*(sheet(*job,k)+[99]))
 s=sheet(*job,3)+[99]
 for r in ("15 0","14 0","13 0"): print(f"refused {r}:",*s)
-print("",*s[26:29])
-s[24]=5
+print("",*s[29:32])
+s[27]=5
 print("not sound"); print("refused 13 0:",*s)
-opens(*job[:5],[99]*30)
+opens(*job[:5],[99]*33)
 answers=[0,2,13,0,0,3,15,0,14,0,9]
 print("done 10:",*answers)
 print("",*(sheet(*job,3)+[99]))
 print("refused 5 0:",*answers)
 print("refused 10 10:",*[9]*9)
-opens(*three[:5],[9]*53)
+opens(*job[:5],[99]*33,[2,3])
+print("refused 14 0:",*(sheet(*job,1,[2,3])+[99])); print("done 2:",*(sheet(*job,2,[2,3])+[99]))
+print("sound"); print("not sound"); print("sound") # with both words changed it is the sheet of the job, at two terms
+for lengths in ([0,3],[2,4],[1,3],[2,1],[2]): opens(*job[:4],[6,1],[9]*3,lengths)
+opens(*three[:5],[9]*58)
 s=sheet(*three,4)+[9]
 print("done 4:",*s); print("sound")
-part=s[40:48]; buf=[9]*9
+part=s[45:53]; buf=[9]*9
 rowshift(5,1,4,part,3,buf);rowmul(5,1,0,4,part,[1,1,0,0],buf);rowshift(5,1,4,part,5,buf);say((16,0),0,None,buf)
 print("not sound"); print("not sound")
 f=[0]*32+[1]
-for D in (33,0,32): opens(7,D,1,f,[0],[9]*78)
+for D in (33,0,32): opens(7,D,1,f,[0],[9]*111)
 f=[0]*512; f[1]=f[256]=1
-for n in (257,256): opens(7,1,n,f,[0],[9]*781)
+for n in (257,256): opens(7,1,n,f,[0],[9]*783)
 print("refused 14 0:",*(sheet(7,1,256,f,[0],[1],1)+[9]))
 print("done 256:",*(sheet(7,1,256,f,[0],[1],256)+[9]))
 g,h=[6,0,0,0,1,0],[6,0,0,0,2,0]

@@ -23,9 +23,10 @@ static void print_factor(const uint32_t *sheet, const uint32_t factor[4]) {
 
 int main(void) {
     const uint32_t f[(D + 1) * N] = {6, 6, [D * N] = 1}; /* row 0 is -1 - X, row 1 is 0, row 2 is 1 */
+    const uint32_t lengths[D] = {N, N}; /* of rows 0 and 1 all terms are known */
     const uint32_t roots[] = {1, 6};
     uint32_t sheet[WORDS];
-    if (refused("open", bk_sheet_open(P, D, N, f, (D + 1) * N, roots, 2, sheet, WORDS))) return 1;
+    if (refused("open", bk_sheet_open(P, D, N, f, (D + 1) * N, lengths, D, roots, 2, sheet, WORDS))) return 1;
     if (refused("extend", bk_sheet_extend(sheet, WORDS, N))) return 1;
     for (uint32_t i = 0; i < sheet[4]; i++) {
         uint32_t factor[4];

@@ -1,5 +1,5 @@
-//! Document 01 once more, with document 02's F-8 (the sheet), F-2 (moduli of three bytes, wide job files), F-4 (one call for the pair) and F-5 (quotients with X in
-//! common): written from their text alone and by other methods than the engine's, so that a slip of one is not a slip of both.
+//! Document 01 once more, with document 02's F-8 (the sheet), F-2 (moduli of three bytes, wide job files), F-4 (one call for the pair), F-5 (quotients with X in
+//! common) and F-9 (rows known to different lengths): written from their text alone and by other methods than the engine's, so that a slip of one is not a slip of both.
 //!
 //! | | engine | here |
 //! |---|---|---|
@@ -7,6 +7,7 @@
 //! | inverse of a number | Euclid's remainders | Fermat's power |
 //! | inverse of a series | column after column | Newton's doubling |
 //! | quotient of series | least powers counted, then column after column | X taken out of both, once and again; then times the inverse |
+//! | terms not known | left out of the work, and zeros put after it | worked out with the others, and then made 0 |
 //! | shift | weights from binomials | Horner over row polynomials |
 //! | powers of the roots | repeated division by Y − c | the order of f(Y + c), then multiplied back |
 //! | pair | column after column, in place | Newton's doubling, from f alone; what stands in the output is compared with that |

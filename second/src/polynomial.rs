@@ -111,9 +111,14 @@ pub fn truncated(f: &[Series], k: usize) -> Polynomial {
     f.iter().map(|row| row[..k].to_vec()).collect()
 }
 
+/// Columns 0 to k − 1 of a series, and then 0.
+pub fn cut_series(s: &[u64], k: usize) -> Series {
+    s.iter().enumerate().map(|(t, &c)| if t < k { c } else { 0 }).collect()
+}
+
 /// Columns 0 to k − 1, and then 0.
 pub fn cut(f: &[Series], k: usize) -> Polynomial {
-    f.iter().map(|row| row.iter().enumerate().map(|(t, &c)| if t < k { c } else { 0 }).collect()).collect()
+    f.iter().map(|row| cut_series(row, k)).collect()
 }
 
 /// Column t of f·g, from columns 0 to t of both.

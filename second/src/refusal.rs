@@ -1,8 +1,9 @@
 //! The table of refusals: an operation lists its rows in the order in which they are judged.
 
 use crate::field::{least_divisor, LARGEST_MODULUS};
+use crate::polynomial::{cut_series, Series};
 
-/// A row of document 01's table, by its number, and the detail word.
+/// A row of the table of document 01, or of those that document 02 adds, by its number, and the detail word.
 #[derive(Clone, Copy, Debug, PartialEq, Eq)]
 pub struct Refusal {
     pub number: u32,
@@ -65,7 +66,13 @@ pub fn short<T>(out: &[T], needed: usize) -> Option<usize> {
     (out.len() < needed).then_some(needed)
 }
 
-/// Row 14.
-pub fn beyond(w: u32, n: u32) -> Option<usize> {
-    when(w == 0 || w > n)
+/// Row 14: terms past the most that there can be.
+pub fn beyond(w: u32, most: u32) -> Option<usize> {
+    when(w == 0 || w > most)
+}
+
+/// Row 21: each series has a count of known terms beside it, from 1 to its width, and is what it is when cut there. Series without a count are known.
+pub fn unknown(series: &[Series], known: &[u32]) -> Option<usize> {
+    let fits = |(s, &k): (&Series, &u32)| (1..=s.len()).contains(&(k as usize)) && cut_series(s, k as usize) == *s;
+    when(!series.iter().zip(known).all(fits))
 }

@@ -9,10 +9,14 @@ use crate::polynomial::{
     at_zero, column, constant, cut, line_power, lower_words, polynomial, product_column, product_of_all, series, set_column, shift, truncated, words,
     Polynomial,
 };
-use crate::refusal::{beyond, composite, judge, length, modulus_range, short, terms, unreduced, when, Answer, Refusal};
+use crate::refusal::{beyond, composite, judge, length, modulus_range, short, terms, unknown, unreduced, when, Answer, Refusal};
 use crate::rows;
 
-const HEADER: usize = 10;
+/// The header words; after them stand the lengths.
+const HEADER: usize = 11;
+
+/// A root and its power.
+type Root = (u32, u32);
 
 /// A sheet taken apart.
 struct Sheet {
@@ -20,31 +24,40 @@ struct Sheet {
     n: usize,
     /// The terms worked.
     k: usize,
-    /// Root and power.
-    roots: Vec<(u32, u32)>,
+    /// The known length of each row of f below the top one.
+    lengths: Vec<u32>,
+    roots: Vec<Root>,
     f: Polynomial,
     /// With their leading 1.
     factors: Vec<Polynomial>,
 }
 
-/// The ten header words. Word 8 was where cofactors began, and is now the total too.
-fn header(p: u32, n: usize, k: usize, powers: &[usize]) -> [u32; HEADER] {
+/// The header words. Word 8 was where cofactors began, and is now the total too.
+fn header(p: u32, n: usize, k: usize, lengths: &[u32], powers: &[usize]) -> [u32; HEADER] {
     let (d, r) = (powers.iter().sum::<usize>(), powers.len());
-    let rows = HEADER + 2 * r;
+    let roots = HEADER + lengths.len();
+    let rows = roots + 2 * r;
     let factors = rows + (d + 1) * n;
     let total = factors + d * n;
-    [p, d as u32, n as u32, k as u32, r as u32, HEADER as u32, rows as u32, factors as u32, total as u32, total as u32]
+    let [roots, rows, factors, total] = [roots, rows, factors, total].map(|place| place as u32);
+    [p, d as u32, n as u32, k as u32, r as u32, roots, rows, factors, total, total, least(lengths)]
 }
 
-/// Roots and powers, where header words 1 to 4 and the powers are in their ranges.
-fn roots_in(s: &[u32]) -> Option<Vec<(u32, u32)>> {
+/// The least of the lengths, of which there is always one.
+fn least(lengths: &[u32]) -> u32 {
+    *lengths.iter().min().expect("there is a row below the top one")
+}
+
+/// The lengths, and roots with powers, where header words 1 to 4 and the powers are in their ranges.
+fn front(s: &[u32]) -> Option<(Vec<u32>, Vec<Root>)> {
     let &[_, d, n, k, r, ..] = s.get(..HEADER)? else { return None };
     if !(1..=32).contains(&d) || !(1..=256).contains(&n) || !(1..=n).contains(&k) || !(1..=d).contains(&r) {
         return None;
     }
-    let entries = s.get(HEADER..HEADER + 2 * r as usize)?;
-    let roots: Vec<(u32, u32)> = entries.chunks(2).map(|entry| (entry[0], entry[1])).collect();
-    roots.iter().all(|(_, m)| (1..=d).contains(m)).then_some(roots)
+    let (lengths, after) = s[HEADER..].split_at_checked(d as usize)?;
+    let entries = after.get(..2 * r as usize)?;
+    let roots: Vec<Root> = entries.chunks(2).map(|entry| (entry[0], entry[1])).collect();
+    roots.iter().all(|(_, m)| (1..=d).contains(m)).then_some((lengths.to_vec(), roots))
 }
 
 impl Sheet {
@@ -53,7 +66,8 @@ impl Sheet {
     }
 
     fn words(&self) -> Vec<u32> {
-        let mut all = header(self.p, self.n, self.k, &self.powers()).to_vec();
+        let mut all = header(self.p, self.n, self.k, &self.lengths, &self.powers()).to_vec();
+        all.extend(&self.lengths);
         all.extend(self.roots.iter().flat_map(|&(c, m)| [c, m]));
         all.extend(words(&self.f));
         all.extend(self.factors.iter().flat_map(|a| lower_words(a)));
@@ -62,23 +76,28 @@ impl Sheet {
 
     /// What the words hold, where they are as many as their header says and the header is right.
     fn read(s: &[u32]) -> Option<Sheet> {
-        let roots = roots_in(s)?;
+        let (lengths, roots) = front(s)?;
         let &[p, d, n, k, ..] = s else { return None };
         let (n, k) = (n as usize, k as usize);
         let powers: Vec<usize> = roots.iter().map(|&(_, m)| m as usize).collect();
-        let header = header(p, n, k, &powers);
+        let header = header(p, n, k, &lengths, &powers);
         if s[..HEADER] != header {
             return None;
         }
         let mut rows = s.get(header[6] as usize..header[9] as usize)?.chunks(n).map(series);
         let f = rows.by_ref().take(d as usize + 1).collect();
         let factors = powers.iter().map(|&m| rows.by_ref().take(m).chain([constant(1, n)]).collect()).collect();
-        Some(Sheet { p, n, k, roots, f, factors })
+        Some(Sheet { p, n, k, lengths, roots, f, factors })
     }
 
-    /// The conditions of document 01 that speak of numbers: everything is multiplied out, modulo X^k.
+    /// The most terms that it can be worked to.
+    fn reach(&self) -> u32 {
+        least(&self.lengths)
+    }
+
+    /// The conditions of document 01 that speak of numbers, and F-9's: everything is multiplied out, modulo X^k.
     fn is_sound(&self) -> bool {
-        self.is_reduced() && self.is_monic() && self.starts_right() && self.ends_with_zeros() && self.multiplies_out()
+        self.is_reduced() && self.is_known() && self.is_monic() && self.starts_right() && self.ends_with_zeros() && self.multiplies_out()
     }
 
     fn is_reduced(&self) -> bool {
@@ -90,6 +109,11 @@ impl Sheet {
             && self.roots.windows(2).all(|pair| pair[0].0 < pair[1].0)
             && below(&self.f)
             && self.factors.iter().all(below)
+    }
+
+    /// Row 21 passes the lengths and the rows, and no more terms are worked than are known.
+    fn is_known(&self) -> bool {
+        unknown(&self.f, &self.lengths).is_none() && self.k <= self.reach() as usize
     }
 
     fn is_monic(&self) -> bool {
@@ -119,7 +143,7 @@ impl Sheet {
 }
 
 /// (Y − c_i)^(m_i) for each root.
-fn starting_factors(p: u32, n: usize, roots: &[(u32, u32)]) -> Vec<Polynomial> {
+fn starting_factors(p: u32, n: usize, roots: &[Root]) -> Vec<Polynomial> {
     roots.iter().map(|&(c, m)| line_power(p as u64, n, c as u64, m as usize)).collect()
 }
 
@@ -182,34 +206,35 @@ fn lift(p: u64, f: &Polynomial, factors: &mut [Polynomial], from: usize, to: usi
 }
 
 /// The power of each root in f at X = 0, which is the order of f(Y + c), where they give f.
-fn powers(p: u32, f: &Polynomial, roots: &[u32]) -> Option<Vec<(u32, u32)>> {
+fn powers(p: u32, f: &Polynomial, roots: &[u32]) -> Option<Vec<Root>> {
     let start = at_zero(f);
     let order = |c: u32| shift(p as u64, &start, c as u64).iter().position(|row| row[0] != 0);
-    let found: Vec<(u32, u32)> = roots.iter().map(|&c| (c, order(c).expect("f is monic") as u32)).collect();
+    let found: Vec<Root> = roots.iter().map(|&c| (c, order(c).expect("f is monic") as u32)).collect();
     let gives_f = product_of_all(p as u64, 1, &starting_factors(p, 1, &found)) == start;
     (gives_f && found.iter().all(|&(_, m)| m >= 1)).then_some(found)
 }
 
-/// Writes a sheet with one term; the answer is its number of words.
-pub fn open(p: u32, d: u32, n: u32, f: &[u32], roots: &[u32], out: &mut [u32]) -> Answer {
+/// Writes a sheet with one term; the answer is its number of words. Each row of f below the top one has a known length.
+pub fn open(p: u32, d: u32, n: u32, f: &[u32], lengths: &[u32], roots: &[u32], out: &mut [u32]) -> Answer {
     judge(&[
         (1, &|| modulus_range(p)),
         (2, &|| composite(p)),
         (3, &|| when(!(1..=32).contains(&d))),
         (4, &|| terms(n)),
-        (5, &|| length(f, d as u64 + 1, n)),
+        (5, &|| length(f, d as u64 + 1, n).or(when(lengths.len() != d as usize))),
         (6, &|| unreduced(p, &[f, roots])),
     ])?;
     let n = n as usize;
     let f = polynomial(f, n);
     judge(&[
+        (21, &|| unknown(&f, lengths)),
         (7, &|| when(f[d as usize] != constant(1, n))),
         (8, &|| when(roots.is_empty() || roots.len() > d as usize || roots.windows(2).any(|c| c[0] >= c[1]))),
         (9, &|| when(powers(p, &f, roots).is_none())),
     ])?;
     let roots = powers(p, &f, roots).expect("judged");
     let factors = starting_factors(p, n, &roots);
-    let all = Sheet { p, n, k: 1, roots, f, factors }.words();
+    let all = Sheet { p, n, k: 1, lengths: lengths.to_vec(), roots, f, factors }.words();
     judge(&[(10, &|| short(out, all.len()))])?;
     out[..all.len()].copy_from_slice(&all);
     Ok(all.len() as u32)
@@ -230,7 +255,7 @@ pub fn test(sheet: &[u32]) -> bool {
 /// Works the sheet on to w terms; the answer is w.
 pub fn extend(sheet: &mut [u32], w: u32) -> Answer {
     let mut read = sound(sheet).ok_or(spoiled())?;
-    judge(&[(14, &|| beyond(w, read.n as u32)), (15, &|| when((w as usize) < read.k))])?;
+    judge(&[(14, &|| beyond(w, read.reach())), (15, &|| when((w as usize) < read.k))])?;
     read.extend(w as usize);
     let all = read.words();
     sheet[..all.len()].copy_from_slice(&all);
@@ -286,14 +311,14 @@ pub fn replay(sheet: &mut [u32], lent: &[u32], w: &[u32], answers: &mut [u32]) -
     Ok(2 * w.len() as u32)
 }
 
-/// Demand 3's plain count: fed with T and N and, for each call, the words lent and w, it says what `replay` writes, and K.
-pub fn plain_count(total: u32, n: u32, lent: &[u32], w: &[u32]) -> (Vec<u32>, u32) {
+/// Demand 3's plain count: fed with T and the least known length and, for each call, the words lent and w, it says what `replay` writes, and K.
+pub fn plain_count(total: u32, reach: u32, lent: &[u32], w: &[u32]) -> (Vec<u32>, u32) {
     let mut terms = 1;
     let mut answers = Vec::new();
     for (&words, &to) in lent.iter().zip(w) {
         let step = if words < total {
             [13, 0]
-        } else if to == 0 || to > n {
+        } else if to == 0 || to > reach {
             [14, 0]
         } else if to < terms {
             [15, 0]

@@ -1,4 +1,4 @@
-//! The examples of document 01, the sheet of F-8, F-2's moduli and job files, F-4's one call for the pair, and F-5's quotients.
+//! The examples of document 01, the sheet of F-8, F-2's moduli and job files, F-4's one call for the pair, F-5's quotients, and F-9's known lengths.
 
 use second::{listing, numbers, pair, series, sheet, Refusal};
 
@@ -10,28 +10,34 @@ fn job(fields: &[u16]) -> Vec<u8> {
     fields.iter().flat_map(|f| f.to_le_bytes()).collect()
 }
 
+/// Y² − 1 − X modulo 7, document 01's job.
+const SQUARE: [u32; 9] = [6, 6, 0, 0, 0, 0, 1, 0, 0];
+
 #[test]
 fn the_job() {
     let file = job(&[7, 2, 3, 2, 12, 16, 1, 6, 6, 6, 0, 0, 0, 0, 1, 0, 0]);
     let expected = "mod 7 terms 3 degree 2 factors 2\nroot 1 power 1\nY^0: 6 3 1\nroot 6 power 1\nY^0: 1 4 6\n";
     assert_eq!(listing::text(&file), expected);
-    let mut out = [0; 29];
-    assert_eq!(sheet::open(7, 2, 3, &[6, 6, 0, 0, 0, 0, 1, 0, 0], &[1, 6], &mut out), Ok(29));
-    assert_eq!(sheet::open(7, 2, 3, &[6, 6, 0, 0, 0, 0, 1, 0, 0], &[1, 6], &mut out[..28]), refused(10, 29));
-    assert_eq!(sheet::extend(&mut out[..28], 3), refused(13, 0));
+    let mut out = [9; 32];
+    assert_eq!(sheet::open(7, 2, 3, &SQUARE, &[3, 3], &[1, 6], &mut out[..31]), refused(10, 32));
+    assert_eq!(sheet::open(7, 2, 3, &SQUARE, &[3, 3], &[1, 6], &mut out), Ok(32));
+    assert_eq!(out[..17], [7, 2, 3, 1, 2, 13, 17, 26, 32, 32, 3, 3, 3, 1, 1, 6, 1]);
+    assert_eq!(out[17..], [6, 6, 0, 0, 0, 0, 1, 0, 0, 6, 0, 0, 1, 0, 0]);
+    assert_eq!(sheet::extend(&mut out[..31], 3), refused(13, 0));
     assert_eq!(sheet::extend(&mut out, 4), refused(14, 0));
     assert_eq!(sheet::extend(&mut out, 0), refused(14, 0));
     assert_eq!(sheet::extend(&mut out, 3), Ok(3));
+    assert_eq!((out[3], &out[26..]), (3, &[6, 3, 1, 1, 4, 6][..]));
 }
 
 #[test]
 fn a_double_root_modulo_2() {
     let mut out = [0; 64];
     let f = [0, 1, 0, 1, 1, 0, 1, 0];
-    let total = sheet::open(2, 3, 2, &f, &[0, 1], &mut out).unwrap() as usize;
+    let total = sheet::open(2, 3, 2, &f, &[2; 3], &[0, 1], &mut out).unwrap() as usize;
     assert_eq!(sheet::extend(&mut out[..total], 2), Ok(2));
-    assert_eq!(&out[10..14], &[0, 2, 1, 1]);
-    assert_eq!(&out[22..28], &[0, 1, 0, 0, 1, 0]);
+    assert_eq!(&out[14..18], &[0, 2, 1, 1]);
+    assert_eq!(&out[26..32], &[0, 1, 0, 0, 1, 0]);
 }
 
 /// X + Y + Y².
@@ -82,7 +88,7 @@ fn a_pair_is_started_and_continued() {
 
 #[test]
 fn refusals() {
-    assert_eq!(sheet::open(7, 2, 1, &[6, 0, 1], &[1], &mut [0; 99]), refused(9, 0));
+    assert_eq!(sheet::open(7, 2, 1, &[6, 0, 1], &[1, 1], &[1], &mut [0; 99]), refused(9, 0));
     assert_eq!(numbers::sum(91, 0, 0), refused(2, 7));
     assert_eq!(numbers::sum(65521, 65520, 2), Ok(1));
     assert_eq!(numbers::sum(65535, 0, 0), refused(2, 3));
@@ -121,41 +127,41 @@ fn a_wide_job() {
 
 #[test]
 fn a_list_of_calls_is_the_plain_count() {
-    let mut words = [0; 29];
-    sheet::open(7, 2, 3, &[6, 6, 0, 0, 0, 0, 1, 0, 0], &[1, 6], &mut words).unwrap();
-    let (lent, w) = ([29, 28, 29, 29, 29], [2, 3, 1, 4, 3]);
+    let mut words = [0; 32];
+    sheet::open(7, 2, 3, &SQUARE, &[3, 3], &[1, 6], &mut words).unwrap();
+    let (lent, w) = ([32, 31, 32, 32, 32], [2, 3, 1, 4, 3]);
     let mut answers = [9; 11];
     assert_eq!(sheet::replay(&mut words, &lent, &w, &mut answers), Ok(10));
     assert_eq!(answers[..10], [0, 2, 13, 0, 15, 0, 14, 0, 0, 3]);
-    assert_eq!(sheet::plain_count(29, 3, &lent, &w), (answers[..10].to_vec(), 3));
+    assert_eq!(sheet::plain_count(32, 3, &lent, &w), (answers[..10].to_vec(), 3));
 }
 
 /// Y³ − 1 − X modulo 7: at X = 0 its roots are 1, 2 and 4.
 const CUBIC: [u32; 8] = [6, 6, 0, 0, 0, 0, 1, 0];
 
-fn opened_cubic() -> [u32; 30] {
-    let mut words = [9; 30];
-    assert_eq!(sheet::open(7, 3, 2, &CUBIC, &[1, 2, 4], &mut words), Ok(30));
+fn opened_cubic() -> [u32; 34] {
+    let mut words = [9; 34];
+    assert_eq!(sheet::open(7, 3, 2, &CUBIC, &[2; 3], &[1, 2, 4], &mut words), Ok(34));
     words
 }
 
 #[test]
 fn a_sheet_of_three_roots() {
     let mut words = opened_cubic();
-    assert_eq!(words[..10], [7, 3, 2, 1, 3, 10, 16, 24, 30, 30]);
+    assert_eq!(words[..14], [7, 3, 2, 1, 3, 14, 20, 28, 34, 34, 2, 2, 2, 2]);
     assert_eq!(sheet::extend(&mut words, 2), Ok(2));
     // a root c moves by X / 3c²: by 5X, 3X and 6X
-    assert_eq!(words[24..], [6, 2, 5, 4, 3, 1]);
+    assert_eq!(words[28..], [6, 2, 5, 4, 3, 1]);
     let mut part = [0; 4];
     assert_eq!(sheet::factor(&words, 2, &mut part), Ok(4));
-    assert_eq!(part, [4, 1, 28, 2]);
+    assert_eq!(part, [4, 1, 32, 2]);
 }
 
 #[test]
 fn a_factor_is_read_in_the_order_of_the_numbers() {
     let words = opened_cubic();
-    assert_eq!(sheet::factor(&words[..29], 3, &mut [0; 3]), refused(10, 4));
-    assert_eq!(sheet::factor(&words[..29], 3, &mut [0; 4]), refused(13, 0));
+    assert_eq!(sheet::factor(&words[..33], 3, &mut [0; 3]), refused(10, 4));
+    assert_eq!(sheet::factor(&words[..33], 3, &mut [0; 4]), refused(13, 0));
     assert_eq!(sheet::factor(&words, 3, &mut [0; 4]), refused(16, 0));
 }
 
@@ -169,7 +175,7 @@ fn a_factor_passed_on() {
     assert_eq!(out, [0, 5, 5, 4, 9]); // (5 + 4X) (Y + X)
     assert_eq!(sheet::factor_shift(&words, 1, 6, &mut out[..3]), Ok(2));
     assert_eq!(out, [5, 4, 5, 4, 9]);
-    assert_eq!(sheet::factor_times(&words[..29], 3, 33, &[7], &mut []), refused(13, 0));
+    assert_eq!(sheet::factor_times(&words[..33], 3, 33, &[7], &mut []), refused(13, 0));
     assert_eq!(sheet::factor_times(&words, 3, 33, &[7], &mut []), refused(16, 0));
     assert_eq!(sheet::factor_shift(&words, 3, 7, &mut []), refused(16, 0));
     assert_eq!(sheet::factor_shift(&words, 1, 7, &mut []), refused(6, 2));
@@ -179,38 +185,126 @@ fn a_factor_passed_on() {
 #[test]
 fn one_word_less() {
     let mut words = opened_cubic();
-    assert_eq!(sheet::open(7, 3, 2, &CUBIC, &[1, 2, 4], &mut words[..29]), refused(10, 30));
-    assert_eq!(sheet::extend(&mut words[..29], 2), refused(13, 0));
+    assert_eq!(sheet::open(7, 3, 2, &CUBIC, &[2; 3], &[1, 2, 4], &mut words[..33]), refused(10, 34));
+    assert_eq!(sheet::extend(&mut words[..33], 2), refused(13, 0));
 }
 
 #[test]
 fn words_8_and_9_are_the_total() {
     let longer = [&opened_cubic()[..], &[0; 4]].concat();
     assert!(sheet::test(&longer));
-    for (word_8, word_9) in [(29, 30), (31, 30), (30, 29), (30, 31), (29, 29), (34, 34), (0, 0)] {
+    for (word_8, word_9) in [(33, 34), (35, 34), (34, 33), (34, 35), (33, 33), (38, 38), (0, 0)] {
         let mut changed = longer.clone();
         (changed[8], changed[9]) = (word_8, word_9);
         assert!(!sheet::test(&changed), "{word_8} {word_9}");
     }
 }
 
+/// Without lengths, as F-8 laid it out; and with a cofactor too, as document 01 did.
 #[test]
-fn document_01_s_sheet_of_three_roots_is_spoiled() {
-    let mut old = opened_cubic().to_vec();
+fn older_sheets_are_spoiled() {
+    let words = opened_cubic();
+    let mut old = [&[7, 3, 2, 1, 3, 10, 16, 24, 30, 30], &words[14..]].concat();
+    assert!(!sheet::test(&old));
+    assert_eq!(sheet::extend(&mut old, 2), refused(13, 0));
     old.extend([1, 0, 1, 0]); // (Y − 2)(Y − 4) is Y² + Y + 1
+    assert!(!sheet::test(&old));
     old[9] = 34;
     assert!(!sheet::test(&old));
     assert_eq!(sheet::extend(&mut old, 2), refused(13, 0));
-    old[9] = 30;
-    assert!(sheet::test(&old), "words past the end are free");
 }
 
 #[test]
 fn a_wrong_column_comes_before_w() {
     let mut words = opened_cubic();
     sheet::extend(&mut words, 2).unwrap();
-    words[25] += 1;
+    words[29] += 1;
     for w in [0, 1, 2, 3] {
         assert_eq!(sheet::extend(&mut words, w), refused(13, 0));
     }
+}
+
+/// 3 + 5X + .. and 1 + X + 6X² modulo 7.
+#[test]
+fn sums_and_products_to_the_lesser_count() {
+    let (g, h) = ([3, 5, 0], [1, 1, 6]);
+    let mut out = [9; 4];
+    assert_eq!(series::sum(7, 3, &g, 2, &h, 3, &mut out), Ok(3));
+    assert_eq!(out, [4, 6, 0, 9]);
+    assert_eq!(series::product(7, 3, &g, 2, &h, 3, &mut out), Ok(3));
+    assert_eq!(out, [3, 1, 0, 9]);
+    assert_eq!(series::product(7, 3, &h, 3, &g, 2, &mut out), Ok(3));
+    assert_eq!(out, [3, 1, 0, 9]);
+    assert_eq!(series::product(7, 3, &g, 3, &h, 3, &mut out), Ok(3));
+    assert_eq!(out, [3, 1, 2, 9]);
+}
+
+#[test]
+fn counts_are_judged_after_6_and_before_10() {
+    for call in [series::sum, series::product] {
+        for (g_known, h_known) in [(0, 3), (4, 3), (u32::MAX, 3), (2, 0), (2, 4), (1, 3), (2, 2)] {
+            assert_eq!(call(7, 3, &[3, 5, 0], g_known, &[1, 1, 6], h_known, &mut []), refused(21, 0), "{g_known} {h_known}");
+        }
+        assert_eq!(call(7, 3, &[3, 5, 0], 0, &[1, 1, 7], 0, &mut []), refused(6, 5));
+        assert_eq!(call(7, 3, &[3, 5, 0], 2, &[1, 1, 6], 3, &mut [9; 2]), refused(10, 3));
+    }
+}
+
+/// Row 0, −1 − X, is known to two terms only.
+#[test]
+fn a_sheet_is_worked_to_its_least_length() {
+    let mut words = [9; 32];
+    assert_eq!(sheet::open(7, 2, 3, &SQUARE, &[2, 3], &[1, 6], &mut words), Ok(32));
+    assert_eq!(words[..17], [7, 2, 3, 1, 2, 13, 17, 26, 32, 32, 2, 2, 3, 1, 1, 6, 1]);
+    assert_eq!(sheet::extend(&mut words, 3), refused(14, 0));
+    assert_eq!(sheet::extend(&mut words, 2), Ok(2));
+    assert_eq!(words[26..], [6, 3, 0, 1, 4, 0]);
+    let (lent, w) = ([32, 32, 31, 32], [3, 1, 2, 2]);
+    let mut answers = [9; 8];
+    assert_eq!(sheet::replay(&mut words, &lent, &w, &mut answers), Ok(8));
+    assert_eq!(answers, [14, 0, 15, 0, 13, 0, 0, 2]);
+    assert_eq!(sheet::plain_count(32, 2, &[&[32][..], &lent].concat(), &[&[2][..], &w].concat()), ([&[0, 2][..], &answers].concat(), 2));
+}
+
+#[test]
+fn lengths_are_judged_after_6_and_before_7() {
+    let call = |lengths: &[u32]| sheet::open(7, 2, 3, &SQUARE, lengths, &[1, 6], &mut [9; 31]);
+    for lengths in [&[][..], &[3], &[3, 3, 3]] {
+        assert_eq!(call(lengths), refused(5, 0));
+    }
+    for lengths in [[0, 3], [3, 0], [4, 3], [3, 4], [u32::MAX, 3], [1, 3]] {
+        assert_eq!(call(&lengths), refused(21, 0));
+    }
+    for lengths in [[2, 1], [2, 3], [3, 1]] {
+        assert_eq!(call(&lengths), refused(10, 32));
+    }
+    // a coefficient, a root, the top row, the root list, a root of f
+    assert_eq!(sheet::open(7, 2, 3, &[6, 6, 7, 0, 0, 0, 1, 0, 0], &[2, 3], &[1, 6], &mut []), refused(6, 2));
+    assert_eq!(sheet::open(7, 2, 3, &SQUARE, &[0, 0], &[1, 7], &mut []), refused(6, 10));
+    assert_eq!(sheet::open(7, 2, 3, &[6, 6, 1, 0, 0, 0, 1, 0, 1], &[2, 3], &[], &mut []), refused(21, 0));
+    assert_eq!(sheet::open(7, 2, 3, &[6, 6, 0, 0, 0, 0, 1, 0, 1], &[2, 3], &[], &mut []), refused(7, 0));
+    assert_eq!(sheet::open(7, 2, 3, &SQUARE, &[1, 3], &[6, 1], &mut []), refused(21, 0));
+    assert_eq!(sheet::open(7, 2, 3, &SQUARE, &[1, 3], &[1], &mut []), refused(21, 0));
+}
+
+/// The lengths may be any that leave nothing but 0 past them, with the least of them in word 10 and no more terms worked.
+#[test]
+fn what_lengths_a_sound_sheet_has() {
+    let mut words = [9; 32];
+    sheet::open(7, 2, 3, &SQUARE, &[2, 3], &[1, 6], &mut words).unwrap();
+    sheet::extend(&mut words, 2).unwrap();
+    let with = |reach: u32, lengths: [u32; 2]| {
+        let mut changed = words;
+        changed[10] = reach;
+        changed[11..13].copy_from_slice(&lengths);
+        sheet::test(&changed)
+    };
+    for (reach, lengths) in [(2, [2, 3]), (2, [2, 2]), (2, [3, 2]), (3, [3, 3])] {
+        assert!(with(reach, lengths), "{reach} {lengths:?}");
+    }
+    for (reach, lengths) in [(1, [2, 3]), (3, [2, 3]), (0, [2, 3]), (1, [2, 1]), (1, [1, 3]), (0, [2, 0]), (2, [2, 4]), (4, [4, 4])] {
+        assert!(!with(reach, lengths), "{reach} {lengths:?}");
+    }
+    words[19] = 1; // in row 0, past its length
+    assert!(!sheet::test(&words));
 }

@@ -11,7 +11,7 @@
 //!
 //! // Y² − 1 − X modulo 7: at X = 0 its roots are 1 and 6. Three terms.
 //! let f = [6, 6, 0, /* Y */ 0, 0, 0, /* Y² */ 1, 0, 0];
-//! let mut sheet = Sheet::open(7, 2, 3, &f, &[1, 6])?;
+//! let mut sheet = Sheet::open_known(7, 2, 3, &f, &[1, 6])?;
 //! sheet.extend(3)?;
 //!
 //! let first = sheet.factor(0)?;
@@ -19,9 +19,12 @@
 //! assert_eq!(first.row(0), [6, 3, 1]); // Y + 6 + 3X + X²
 //!
 //! let refusal = sheet.extend(4).unwrap_err();
-//! assert_eq!(refusal.to_string(), "refused 14: the terms wanted are none, or more than there are columns");
+//! let text = "refused 14: the terms wanted are none, or more than there are columns, or than the least known length of a sheet";
+//! assert_eq!(refusal.to_string(), text);
 //! # Ok::<(), bopkheul::Refusal>(())
 //! ```
+//!
+//! Here every entry is known. Where rows are known to different lengths, [`Sheet::open`] takes these lengths.
 
 mod raw;
 mod refusal;

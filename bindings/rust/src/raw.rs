@@ -12,9 +12,31 @@ extern "C" {
     pub fn bk_product(p: u32, value: u32, other: u32) -> u64;
     pub fn bk_inverse(p: u32, value: u32) -> u64;
 
-    pub fn bk_series_sum(p: u32, n: u32, g: Words, g_count: usize, h: Words, h_count: usize, out: Out, out_count: usize) -> u64;
+    pub fn bk_series_sum(
+        p: u32,
+        n: u32,
+        g: Words,
+        g_count: usize,
+        g_known: u32,
+        h: Words,
+        h_count: usize,
+        h_known: u32,
+        out: Out,
+        out_count: usize,
+    ) -> u64;
     pub fn bk_series_difference(p: u32, n: u32, g: Words, g_count: usize, h: Words, h_count: usize, out: Out, out_count: usize) -> u64;
-    pub fn bk_series_product(p: u32, n: u32, g: Words, g_count: usize, h: Words, h_count: usize, out: Out, out_count: usize) -> u64;
+    pub fn bk_series_product(
+        p: u32,
+        n: u32,
+        g: Words,
+        g_count: usize,
+        g_known: u32,
+        h: Words,
+        h_count: usize,
+        h_known: u32,
+        out: Out,
+        out_count: usize,
+    ) -> u64;
     pub fn bk_series_quotient(p: u32, n: u32, g: Words, g_count: usize, h: Words, h_count: usize, out: Out, out_count: usize) -> u64;
     pub fn bk_series_inverse(p: u32, n: u32, g: Words, g_count: usize, out: Out, out_count: usize) -> u64;
 
@@ -25,7 +47,19 @@ extern "C" {
 
     pub fn bk_pair(p: u32, d: u32, n: u32, f: Words, f_count: usize, h: u32, w: u32, out: Out, out_count: usize) -> u64;
 
-    pub fn bk_sheet_open(p: u32, d: u32, n: u32, f: Words, f_count: usize, roots: Words, roots_count: usize, out: Out, out_count: usize) -> u64;
+    pub fn bk_sheet_open(
+        p: u32,
+        d: u32,
+        n: u32,
+        f: Words,
+        f_count: usize,
+        lengths: Words,
+        lengths_count: usize,
+        roots: Words,
+        roots_count: usize,
+        out: Out,
+        out_count: usize,
+    ) -> u64;
     pub fn bk_sheet_extend(sheet: Out, sheet_count: usize, w: u32) -> u64;
     pub fn bk_sheet_test(sheet: Words, sheet_count: usize) -> u64;
     pub fn bk_sheet_factor(sheet: Words, sheet_count: usize, i: u32, out: Out, out_count: usize) -> u64;

@@ -10,7 +10,7 @@ pub struct Refusal {
     pub detail: u32,
 }
 
-/// The refusals by name, numbered from 1.
+/// The refusals by name, each with its number; 17 to 20 are not in use.
 #[derive(Clone, Copy, Debug, PartialEq, Eq, Hash)]
 #[non_exhaustive]
 pub enum Kind {
@@ -30,11 +30,12 @@ pub enum Kind {
     Beyond,
     Behind,
     NoFactor,
+    KnownTerms = 21,
     /// A number that this crate has no name for.
     Unknown,
 }
 
-const KINDS: [Kind; 16] = [
+const KINDS: [Kind; 17] = [
     Kind::ModulusRange,
     Kind::Composite,
     Kind::Degree,
@@ -51,6 +52,7 @@ const KINDS: [Kind; 16] = [
     Kind::Beyond,
     Kind::Behind,
     Kind::NoFactor,
+    Kind::KnownTerms,
 ];
 
 impl Refusal {
@@ -69,7 +71,9 @@ impl fmt::Display for Refusal {
             Kind::Composite => write!(to, "the modulus is composite, {detail} divides it"),
             Kind::Degree => write!(to, "a degree bound is above 32 (or, opening a sheet, it is 0)"),
             Kind::Terms => write!(to, "the number of columns is not from 1 to 256"),
-            Kind::Rows => write!(to, "an input has more or fewer words than the others give it, or a call of a list is lent more words than there are"),
+            Kind::Rows => {
+                write!(to, "an input has more or fewer words than the others give it, or a call of a list is lent more words than there are")
+            }
             Kind::Unreduced => write!(to, "word {detail} of the input, counted from 0, is not below the modulus"),
             Kind::NotMonic => write!(to, "the top row is not 1, 0, 0, .., so the polynomial is not monic"),
             Kind::RootList => write!(to, "the list of roots is empty, longer than the degree, or not strictly rising"),
@@ -78,9 +82,10 @@ impl fmt::Display for Refusal {
             Kind::Flat => write!(to, "every row is 0 at X = 0, so there is no pair"),
             Kind::NoUnit => write!(to, "the divisor is 0 or has more of X than the dividend; or what is to be inverted begins with 0"),
             Kind::Spoiled => write!(to, "the words are not those of a sound sheet, or not the terms of the pair to go on from"),
-            Kind::Beyond => write!(to, "the terms wanted are none, or more than there are columns"),
+            Kind::Beyond => write!(to, "the terms wanted are none, or more than there are columns, or than the least known length of a sheet"),
             Kind::Behind => write!(to, "the terms wanted are fewer than those there"),
             Kind::NoFactor => write!(to, "there is no factor of this index"),
+            Kind::KnownTerms => write!(to, "a count of known terms or a known length is not from 1 to the columns, or a word past it is not 0"),
             Kind::Unknown => write!(to, "a refusal with no name here, detail {detail}"),
         }
     }

@@ -1,20 +1,25 @@
 //! Factor sheets: a polynomial, its roots at X = 0 with their powers, and its Hensel factors to so many terms, in words that may be stored and lent on.
 //!
-//! A sheet with r factors takes exactly 10 + 2r + (2d + 1)n words:
+//! Each row of the polynomial below the top one has a known length: so many of its terms are known, from 1 to n, and 0 stands past them. The factors can be worked to
+//! the least of these lengths and no further, since the next column depends on what is not known.
+//!
+//! A sheet with r factors takes exactly 11 + d + 2r + (2d + 1)n words:
 //!
 //! | From word | |
 //! |---|---|
-//! | 0 | p, d, n, the terms worked, r, the offsets of the next three parts, and twice the total of words |
-//! | 10 | root and power of each factor |
-//! | 10 + 2r | the d + 1 rows of the polynomial |
-//! | 10 + 2r + (d + 1)n | the rows of the factors below their leading 1, d together; columns from the terms worked up are 0 |
+//! | 0 | p, d, n, the terms worked, r, the offsets of the last three parts, twice the total of words, and the least length |
+//! | 11 | the known lengths of rows 0 to d − 1 |
+//! | 11 + d | root and power of each factor |
+//! | 11 + d + 2r | the d + 1 rows of the polynomial |
+//! | 11 + d + 2r + (d + 1)n | the rows of the factors below their leading 1, d together; columns from the terms worked up are 0 |
 //!
 //! Words past the total are free.
 //!
 //! ```
 //! // Y³ − 1 − X modulo 7 with two columns; at X = 0 its roots are 1, 2 and 4.
-//! let sheet = bopkheul::Sheet::open(7, 3, 2, &[6, 6, 0, 0, 0, 0, 1, 0], &[1, 2, 4])?;
-//! assert_eq!(sheet.words().len(), 10 + 2 * 3 + 7 * 2);
+//! let sheet = bopkheul::Sheet::open_known(7, 3, 2, &[6, 6, 0, 0, 0, 0, 1, 0], &[1, 2, 4])?;
+//! assert_eq!(sheet.words().len(), 11 + 3 + 2 * 3 + 7 * 2);
+//! assert_eq!(sheet.words()[..14], [7, 3, 2, 1, 3, 14, 20, 28, 34, 34, 2, /* lengths */ 2, 2, 2]);
 //! # Ok::<(), bopkheul::Refusal>(())
 //! ```
 
@@ -25,21 +30,27 @@ use crate::{Answer, Refusal};
 use std::error::Error;
 use std::fmt;
 
-/// Writes a sheet with one term to the front of `out`, from f, monic of degree `d`, and its roots at X = 0; the answer is its number of words.
+/// The largest degree of a polynomial that a sheet can have.
+const LARGEST_DEGREE: usize = 32;
+
+/// Writes a sheet with one term to the front of `out`, from f, monic of degree `d`, the known lengths of its rows 0 to `d − 1`, and its roots at X = 0; the answer
+/// is its number of words.
 ///
 /// # Errors
 ///
-/// Refused by one of 1 to 10.
-pub fn open(p: u32, d: u32, n: u32, f: &[u32], roots: &[u32], out: &mut [u32]) -> Answer {
-    // SAFETY: each pointer goes with the count of its slice, and `out` overlaps neither input.
-    answer(unsafe { bk_sheet_open(p, d, n, f.as_ptr(), f.len(), roots.as_ptr(), roots.len(), out.as_mut_ptr(), out.len()) })
+/// Refused by 1, 2, 3, 4, 5, 6, 21, 7, 8, 9 or 10, in this order; by 5 also where there are not `d` lengths. Positions in the detail of 6 are counted along f and
+/// then the roots.
+pub fn open(p: u32, d: u32, n: u32, f: &[u32], lengths: &[u32], roots: &[u32], out: &mut [u32]) -> Answer {
+    let (to, room) = (out.as_mut_ptr(), out.len());
+    // SAFETY: each pointer goes with the count of its slice, and `out` overlaps no input.
+    answer(unsafe { bk_sheet_open(p, d, n, f.as_ptr(), f.len(), lengths.as_ptr(), lengths.len(), roots.as_ptr(), roots.len(), to, room) })
 }
 
 /// Works a sheet on to `w` terms; the answer is `w`.
 ///
 /// # Errors
 ///
-/// Refused by 13, 14 or 15.
+/// Refused by 13, 14 or 15; by 14 where `w` is 0 or above the least of the known lengths.
 pub fn extend(sheet: &mut [u32], w: u32) -> Answer {
     // SAFETY: pointer and count are those of one slice.
     answer(unsafe { bk_sheet_extend(sheet.as_mut_ptr(), sheet.len(), w) })
@@ -151,27 +162,50 @@ impl<'a> Factor<'a> {
 }
 
 impl Sheet {
-    /// A sheet with one term, from f, monic of degree `d` with `n` columns, and its roots at X = 0 in rising order.
+    /// A sheet with one term, from f, monic of degree `d` with `n` columns, the known lengths of its rows 0 to `d − 1`, and its roots at X = 0 in rising order.
+    ///
+    /// ```
+    /// // Y² − 1 − X + .. modulo 7: of the row at Y^0 the third term is not known
+    /// let f = [6, 6, 0, /* Y */ 0, 0, 0, /* Y² */ 1, 0, 0];
+    /// let mut sheet = bopkheul::Sheet::open(7, 2, 3, &f, &[2, 3], &[1, 6])?;
+    /// assert_eq!(sheet.words().len(), 11 + 2 + 2 * 2 + 5 * 3);
+    /// assert_eq!((sheet.reach(), sheet.lengths()), (2, &[2, 3][..]));
+    ///
+    /// assert_eq!(sheet.extend(3), Err(bopkheul::Refusal { number: 14, detail: 0 }));
+    /// assert_eq!(sheet.extend(2), Ok(2));
+    /// assert_eq!(sheet.factor(0)?.row(0), [6, 3, 0]); // Y + 6 + 3X + ..
+    /// # Ok::<(), bopkheul::Refusal>(())
+    /// ```
     ///
     /// # Errors
     ///
-    /// Refused by one of 1 to 9.
-    pub fn open(p: u32, d: u32, n: u32, f: &[u32], roots: &[u32]) -> Result<Sheet, Refusal> {
-        let needed = match open(p, d, n, f, roots, &mut []) {
+    /// Refused by 1, 2, 3, 4, 5, 6, 21, 7, 8 or 9, in this order, as [`open`] is.
+    pub fn open(p: u32, d: u32, n: u32, f: &[u32], lengths: &[u32], roots: &[u32]) -> Result<Sheet, Refusal> {
+        let needed = match open(p, d, n, f, lengths, roots, &mut []) {
             Err(Refusal { number: 10, detail }) => detail,
             other => other?,
         };
         let mut words = vec![0; needed as usize];
-        open(p, d, n, f, roots, &mut words)?;
+        open(p, d, n, f, lengths, roots, &mut words)?;
         Ok(Sheet { words })
+    }
+
+    /// A sheet with one term, as [`Sheet::open`] gives it, of a polynomial whose entries are all known: every length is `n`.
+    ///
+    /// # Errors
+    ///
+    /// Refused by one of 1 to 9.
+    pub fn open_known(p: u32, d: u32, n: u32, f: &[u32], roots: &[u32]) -> Result<Sheet, Refusal> {
+        // a larger degree is refused before the lengths are counted
+        let rows = LARGEST_DEGREE.min(d as usize);
+        Sheet::open(p, d, n, f, &[n; LARGEST_DEGREE][..rows], roots)
     }
 
     /// A sheet from words that were stored. Words past the sheet's end are kept.
     ///
     /// # Errors
     ///
-    /// Refused by 13 where the words are not sound, as where a sheet of three roots or more holds cofactors too, which an earlier layout had. The error gives
-    /// the words back.
+    /// Refused by 13 where the words are not sound; so are all sheets of earlier layouts, which had no lengths. The error gives the words back.
     pub fn from_words(words: Vec<u32>) -> Result<Sheet, FromWordsError> {
         if test(&words) {
             Ok(Sheet { words })
@@ -184,7 +218,7 @@ impl Sheet {
     ///
     /// # Errors
     ///
-    /// Refused by 14 or 15.
+    /// Refused by 14, where `w` is 0 or above [`Sheet::reach`], or by 15.
     pub fn extend(&mut self, w: u32) -> Answer {
         extend(&mut self.words, w)
     }
@@ -210,7 +244,7 @@ impl Sheet {
     /// Writes the product of factor `i`'s rows below the leading 1 with g, of degree bound `e`; the answer is the number of words written.
     ///
     /// ```
-    /// let mut sheet = bopkheul::Sheet::open(7, 2, 3, &[6, 6, 0, 0, 0, 0, 1, 0, 0], &[1, 6])?;
+    /// let mut sheet = bopkheul::Sheet::open_known(7, 2, 3, &[6, 6, 0, 0, 0, 0, 1, 0, 0], &[1, 6])?;
     /// sheet.extend(3)?;
     /// let mut out = [0; 6];
     /// // (6 + 3X + X²) (Y + X)
@@ -258,6 +292,16 @@ impl Sheet {
     /// The number of factors.
     pub fn count(&self) -> u32 {
         self.words[4]
+    }
+
+    /// The most terms that it can be worked to: the least of the known lengths.
+    pub fn reach(&self) -> u32 {
+        self.words[10]
+    }
+
+    /// The known lengths of the polynomial's rows below the top one.
+    pub fn lengths(&self) -> &[u32] {
+        &self.words[11..self.words[5] as usize]
     }
 
     /// All words, those past the sheet's end too.

@@ -1,13 +1,14 @@
 //! What the crate adds to the engine: a sheet that owns its words, its getters, and a factor's rows.
 
-use bopkheul::{sheet, Factor, FromWordsError, Kind, Refusal, Sheet};
+use bopkheul::{series, sheet, Factor, FromWordsError, Kind, Refusal, Sheet};
 use std::panic::catch_unwind;
 use std::ptr;
 
-/// Y³ + Y² + XY + X = (Y² + X) (Y + 1) modulo 2, with three columns, two of them worked: 10 + 2 · 2 + 7 · 3 words.
+/// Y³ + Y² + XY + X = (Y² + X) (Y + 1) modulo 2, with three columns, two of them worked: 11 + 3 + 2 · 2 + 7 · 3 words.
 const F: [u32; 12] = [0, 1, 0, 0, 1, 0, 1, 0, 0, 1, 0, 0];
-const WORDS: [u32; 35] = [
-    2, 3, 3, 2, 2, 10, 14, 26, 35, 35, // p, d, n, terms, r, offsets, total
+const WORDS: [u32; 39] = [
+    2, 3, 3, 2, 2, 14, 18, 30, 39, 39, 3, // p, d, n, terms, r, offsets, total, the least length
+    3, 3, 3, // lengths
     0, 2, 1, 1, // roots and powers
     0, 1, 0, 0, 1, 0, 1, 0, 0, 1, 0, 0, // f
     0, 1, 0, 0, 0, 0, // Y² + X
@@ -15,7 +16,7 @@ const WORDS: [u32; 35] = [
 ];
 
 fn worked() -> Sheet {
-    let mut sheet = Sheet::open(2, 3, 3, &F, &[0, 1]).expect("f splits so");
+    let mut sheet = Sheet::open_known(2, 3, 3, &F, &[0, 1]).expect("f splits so");
     assert_eq!(sheet.extend(2), Ok(2));
     sheet
 }
@@ -25,11 +26,78 @@ fn worked() -> Sheet {
 fn a_modulus_of_three_bytes() {
     let p = 16_777_213;
     let f = [p - 1, p - 1, 0, 0, 0, 0, 1, 0, 0];
-    let mut sheet = Sheet::open(p, 2, 3, &f, &[1, p - 1]).expect("f splits so");
+    let mut sheet = Sheet::open_known(p, 2, 3, &f, &[1, p - 1]).expect("f splits so");
     assert_eq!(sheet.extend(3), Ok(3));
     assert_eq!(sheet.factor(0).map(|factor| factor.row(0).to_vec()), Ok(vec![p - 1, 8_388_606, 6_291_455]));
-    assert_eq!(Sheet::open(1 << 24, 2, 3, &f, &[1, p - 1]).map(drop), Err(Refusal { number: 1, detail: 0 }));
-    assert_eq!(Sheet::open(65_536, 2, 3, &f, &[1, p - 1]).map(drop), Err(Refusal { number: 2, detail: 2 }));
+    assert_eq!(Sheet::open_known(1 << 24, 2, 3, &f, &[1, p - 1]).map(drop), Err(Refusal { number: 1, detail: 0 }));
+    assert_eq!(Sheet::open_known(65_536, 2, 3, &f, &[1, p - 1]).map(drop), Err(Refusal { number: 2, detail: 2 }));
+}
+
+/// Row 1, which is X, is known to two terms only.
+const SHORT: [u32; 3] = [3, 2, 3];
+
+#[test]
+fn rows_known_to_different_lengths() {
+    let mut sheet = Sheet::open(2, 3, 3, &F, &SHORT, &[0, 1]).expect("f splits so");
+    assert_eq!((sheet.reach(), sheet.lengths()), (2, &SHORT[..]));
+    assert_eq!(sheet.extend(3), Err(Refusal { number: 14, detail: 0 }));
+    assert_eq!(sheet.extend(2), Ok(2));
+    assert_eq!(sheet.words()[14..], WORDS[14..]);
+    assert_ne!(sheet, worked());
+    assert_eq!(Sheet::from_words(sheet.words().to_vec()), Ok(sheet));
+}
+
+#[test]
+fn what_lengths_are_refused_by() {
+    let opened = |lengths: &[u32]| Sheet::open(2, 3, 3, &F, lengths, &[0, 1]).map(drop).map_err(|refusal| (refusal.kind(), refusal.detail));
+    for lengths in [&[][..], &[3, 3], &[3; 4]] {
+        assert_eq!(opened(lengths), Err((Kind::Rows, 0)), "{lengths:?}");
+    }
+    // outside 1 to 3, or X in row 0 or 1 past the length
+    for lengths in [[0, 3, 3], [3, 3, 0], [3, 4, 3], [3, 3, u32::MAX], [1, 3, 3], [3, 1, 3]] {
+        assert_eq!(opened(&lengths), Err((Kind::KnownTerms, 0)), "{lengths:?}");
+    }
+    assert_eq!(opened(&[2, 2, 1]), Ok(()));
+}
+
+/// As opening with the lengths written out is refused, whatever the degree; no list of that many lengths is made.
+#[test]
+fn all_known_is_refused_as_lengths_are() {
+    for (d, n) in [(0, 3), (33, 3), (1 << 31, 3), (u32::MAX, 3), (u32::MAX, 0), (3, 0), (3, 257), (3, u32::MAX), (2, 3), (32, 3)] {
+        let expected = sheet::open(2, d, n, &F, &[], &[0, 1], &mut []);
+        assert_eq!(Sheet::open_known(2, d, n, &F, &[0, 1]).map(drop), expected.map(drop), "{d} {n}");
+    }
+    let equal = Sheet::open(2, 3, 3, &F, &[3; 3], &[0, 1]);
+    assert_eq!(Sheet::open_known(2, 3, 3, &F, &[0, 1]), equal);
+}
+
+/// 1 + X and 1 + X² modulo 2.
+#[test]
+fn sums_and_products_to_the_lesser_count() {
+    let (g, h) = ([1, 1, 0], [1, 0, 1]);
+    let mut out = [9; 4];
+    assert_eq!(series::sum(2, 3, &g, 2, &h, 3, &mut out), Ok(3));
+    assert_eq!(out, [0, 1, 0, 9]);
+    assert_eq!(series::product(2, 3, &h, 3, &g, 2, &mut out), Ok(3));
+    assert_eq!(out, [1, 1, 0, 9]);
+    for call in [series::sum, series::product] {
+        for (g_known, h_known) in [(0, 3), (4, 3), (1, 3), (3, 2), (3, u32::MAX)] {
+            assert_eq!(call(2, 3, &g, g_known, &h, h_known, &mut []).map_err(Refusal::kind), Err(Kind::KnownTerms), "{g_known} {h_known}");
+        }
+    }
+    assert_eq!(out, [1, 1, 0, 9]);
+}
+
+/// Each number's name is its own, and every other number has none.
+#[test]
+fn refusals_by_name() {
+    let kind = |number| Refusal { number, detail: 0 }.kind();
+    for number in (1..=16).chain([21]) {
+        assert_eq!(kind(number) as u32, number);
+    }
+    for number in (17..=20).chain([0, 22, u32::MAX]) {
+        assert_eq!(kind(number), Kind::Unknown, "{number}");
+    }
 }
 
 #[test]
@@ -40,13 +108,15 @@ fn getters() {
     assert_eq!(sheet.columns(), 3);
     assert_eq!(sheet.terms(), 2);
     assert_eq!(sheet.count(), 2);
+    assert_eq!(sheet.reach(), 3);
+    assert_eq!(sheet.lengths(), [3, 3, 3]);
     assert_eq!(sheet.words(), WORDS);
     assert!(sheet.test());
 }
 
 #[test]
 fn terms_follow_extend() {
-    let mut sheet = Sheet::open(2, 3, 3, &F, &[0, 1]).expect("f splits so");
+    let mut sheet = Sheet::open_known(2, 3, 3, &F, &[0, 1]).expect("f splits so");
     assert_eq!(sheet.terms(), 1);
     assert_eq!(sheet.extend(3), Ok(3));
     assert_eq!(sheet.terms(), 3);
@@ -71,7 +141,7 @@ fn factors_and_their_rows() {
 #[test]
 fn rows_stand_in_the_sheet() {
     let sheet = worked();
-    for (i, from, to) in [(0, 26, 32), (1, 32, 35)] {
+    for (i, from, to) in [(0, 30, 36), (1, 36, 39)] {
         let mut found = [0; 4];
         assert_eq!(sheet::factor(sheet.words(), i, &mut found), Ok(4));
         assert_eq!(found[2..], [from, to - from]);
@@ -83,7 +153,7 @@ fn rows_stand_in_the_sheet() {
 fn a_factor_is_read_in_the_order_of_the_numbers() {
     let sheet = worked();
     let (mut short, mut out) = ([9; 3], [9; 4]);
-    let spoiled = &sheet.words()[..34];
+    let spoiled = &sheet.words()[..38];
     assert_eq!(sheet::factor(spoiled, 2, &mut short), Err(Refusal { number: 10, detail: 4 }));
     assert_eq!(sheet::factor(spoiled, 2, &mut out), Err(Refusal { number: 13, detail: 0 }));
     assert_eq!(sheet::factor(sheet.words(), 2, &mut out), Err(Refusal { number: 16, detail: 0 }));
@@ -105,7 +175,7 @@ fn a_factor_passed_on() {
 #[test]
 fn what_a_factor_passed_on_is_refused_by() {
     let sheet = worked();
-    let spoiled = &sheet.words()[..34];
+    let spoiled = &sheet.words()[..38];
     let refused = |number, detail| Err(Refusal { number, detail });
     let mut out = [9; 5];
     let g = [1, 1, 0, 2]; // a word too many for degree bound 0, and the last is not below 2
@@ -147,14 +217,14 @@ fn words_go_out_and_come_back() {
 #[test]
 fn refused_words_are_given_back() {
     let mut words = WORDS.to_vec();
-    words[27] = 0; // Y² is no factor to two terms
+    words[31] = 0; // Y² is no factor to two terms
     assert!(!sheet::test(&words));
     let error = Sheet::from_words(words.clone()).expect_err("the factors' product is not f");
     assert_eq!(error, FromWordsError { refusal: Refusal { number: 13, detail: 0 }, words });
     assert_eq!(error.to_string(), error.refusal.to_string());
     assert_eq!(Refusal::from(error).kind(), Kind::Spoiled);
 
-    let short = WORDS[..34].to_vec();
+    let short = WORDS[..38].to_vec();
     assert_eq!(Sheet::from_words(short.clone()).map_err(|error| error.words), Err(short));
     assert_eq!(Sheet::from_words(Vec::new()).map_err(|error| error.words), Err(Vec::new()));
 }
@@ -169,5 +239,5 @@ fn words_past_the_end_are_kept_but_not_compared() {
 
     assert_eq!(sheet.extend(3), Ok(3));
     assert_ne!(sheet, worked());
-    assert_eq!(sheet.into_words()[35..], [7, 8, 9]);
+    assert_eq!(sheet.into_words()[39..], [7, 8, 9]);
 }

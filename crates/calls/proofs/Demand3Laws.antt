@@ -1,6 +1,7 @@
 -- Demand 3: whole lists of extend calls on what an accepted open wrote.
 --   opened-done     an accepted open left what its conditions say
 --   demand3-kept    every answer is the plain count's; then the first T words are the one sound sheet's, and the others are untouched
+--   holds-agree     sheets agree below X^j exactly where the polynomials that they hold do
 --   demand3-agree   factor lists agree below X^j exactly where the polynomials given do
 --   demand3         both: the whole of demand 3
 --   calls-same      lists of calls on one opened sheet that end at the same count leave the same words, to the last
@@ -9,7 +10,7 @@ use Prim.Native.Nat.{ℕ, zero, suc, _+_, _-_, _≤_, _<_}
 use native.Mathlib.Nat.{not-suc-le-zero}
 use native.Mathlib.Omega.{arith}
 use mathlib.Core.Path.{_≡_, refl, sym, _∙_, ap, ap₂, subst}
-use mathlib.Core.Logic.{_⊎_, inl, inr, ⊎-elim}
+use mathlib.Core.Logic.{_↔_, _⊎_, inl, inr, ⊎-elim}
 use mathlib.Core.Bool.{Bool, true, false, _||_}
 use mathlib.Core.List.{List, _∷_, _++_}
 use borrow.Author.Tests.{lt-ltb, le-ltb}
@@ -23,14 +24,14 @@ use Rattle.numbers.specs.declared.refusal.Verdict.{Verdict}
 use Rattle.numbers.specs.declared.refusal.Verdict.the-variants.{Pass, Refuse}
 use Rattle.numbers.proofs.WordsLaws.{lt-or-ge}
 use Rattle.layout.specs.Layout.{modulus, end}
-use Rattle.sheet.specs.Sheet.{Sound, Given, Holds}
+use Rattle.sheet.specs.Sheet.{Sound, Given, given-reach, Holds}
 use Rattle.open.specs.Open.{needed, openVerdict, OpenDone, Opened}
 use Rattle.extend.specs.Extend.{extendVerdict, ExtendDone, Extended}
-use Rattle.calls.specs.Calls.{Call, Run, done, call, countAnswer, countNext, countAnswers, countTerms, History, worked, Kept, Agree, Demand3}
+use Rattle.calls.specs.Calls.{Call, Run, done, call, countAnswer, countNext, countAnswers, countTerms, SameLists, SameGiven, History, worked, Kept, Agree, Demand3}
 use Rattle.sheet.specs.internal.Content.{contentOf}
-use Rattle.sheet.proofs.SheetsLaws.{sound-good, end-ext}
+use Rattle.sheet.proofs.SheetsLaws.{sound-good, sound-terms, end-ext}
 use Rattle.sheet.proofs.UniqueLaws.{good-lists, good-polynomials, holds-unique}
-use Rattle.sheet.proofs.HoldsLaws.{holds-ext}
+use Rattle.sheet.proofs.HoldsLaws.{holds-reach, holds-ext}
 use Rattle.extend.proofs.ExtendingLaws.{extend-end, extend-holds}
 use Rattle.extend.proofs.ExtendTotalLaws.{extend-spoiled, extend-beyond, extend-behind, extend-reached}
 
@@ -74,7 +75,7 @@ module _ (g : Given) (T : ℕ) (start : List ℕ) where
     u = take n s
 
     abbrev answer : Outcome ℕ
-    answer = countAnswer T (g .N) K (record { lent = n; goal = w })
+    answer = countAnswer T (given-reach g) K (record { lent = n; goal = w })
 
     length-u : length u ≡ n
     length-u = length-take-le n s lent
@@ -140,26 +141,26 @@ module _ (g : Given) (T : ℕ) (start : List ℕ) where
         )
 
         step : Step
-        step = ⊎-elim (λ (l : n < T). refusing 13 (extend-spoiled u w (short l)) (count-short T (g .N) K n w l)) enough (lt-or-ge n T)
+        step = ⊎-elim (λ (l : n < T). refusing 13 (extend-spoiled u w (short l)) (count-short T (given-reach g) K n w l)) enough (lt-or-ge n T)
           where
             enough : T ≤ n → Step
             enough l =
                 let h = long l in
-                let eN = h .same-width in
+                let er = holds-reach g K u h in
                 let ek = h .same-terms in
-                ⊎-elim (λ (z : w < 1). refusing 14 (extend-beyond u w (h .sound) (inl (omega arith))) (count-beyond T (g .N) K n w l (inl (omega arith))))
-                (λ (low : 1 ≤ w). ⊎-elim (λ (z : g .N < w). refusing 14 (extend-beyond u w (h .sound) (inr (omega arith))) (count-beyond T (g .N) K n w l (inr z)))
-                (λ (high : w ≤ g .N). ⊎-elim (λ (z : w < K). refusing 15 (extend-behind u w (h .sound) low (omega arith) (omega arith)) (count-behind T (g .N) K n w l low high z))
-                (λ (z : K ≤ w). accepting l (extend-reached u w (h .sound) low (omega arith) (omega arith)) (count-reached T (g .N) K n w l low high z))
-                (lt-or-ge w K)) (lt-or-ge (g .N) w)) (lt-or-ge w 1)
+                ⊎-elim (λ (z : w < 1). refusing 14 (extend-beyond u w (h .sound) (inl (omega arith))) (count-beyond T (given-reach g) K n w l (inl (omega arith))))
+                (λ (low : 1 ≤ w). ⊎-elim (λ (z : given-reach g < w). refusing 14 (extend-beyond u w (h .sound) (inr (omega arith))) (count-beyond T (given-reach g) K n w l (inr z)))
+                (λ (high : w ≤ given-reach g). ⊎-elim (λ (z : w < K). refusing 15 (extend-behind u w (h .sound) low (omega arith) (omega arith)) (count-behind T (given-reach g) K n w l low high z))
+                (λ (z : K ≤ w). accepting l (extend-reached u w (h .sound) low (omega arith) (omega arith)) (count-reached T (given-reach g) K n w l low high z))
+                (lt-or-ge w K)) (lt-or-ge (given-reach g) w)) (lt-or-ge w 1)
 
   whole : {s last : List ℕ} {cs : List Call} {os : List (Outcome ℕ)} → Run s cs os last → (K : ℕ) → Between K s
-      → (os ≡ countAnswers T (g .N) K cs) × Between (countTerms T (g .N) K cs) last
+      → (os ≡ countAnswers T (given-reach g) K cs) × Between (countTerms T (given-reach g) K cs) last
   unfolding countAnswers countTerms
   whole done K b = (refl, b)
   whole (call {s} {part} {c = c} {cs} {a} l x r) K b =
       let q = step K s b (c .lent) (c .goal) l part a x in
-      let z = whole r (countNext K (countAnswer T (g .N) K c)) (q .1) in
+      let z = whole r (countNext K (countAnswer T (given-reach g) K c)) (q .1) in
       (ap₂ (λ (h : Outcome ℕ) (t : List (Outcome ℕ)). h ∷ t) (q .0) (z .0), z .1)
 
 pub opened-done : (g : Given) (old new : List ℕ) (T : ℕ) → Opened g old (accepted T) new → OpenDone g old new T
@@ -167,7 +168,7 @@ opened-done g old new T x =
     let (e, t) = accepted-pass (openVerdict g (length old)) (needed g) T (x .answers) in
     subst (OpenDone g old new) (sym t) (subst (λ v. Leaves v (OpenDone g old new (needed g)) old new) e (x .leaves))
 
-between : (x : History) → (x .answers ≡ countAnswers (x .T) (x .given .N) 1 (x .calls)) × Between (x .given) (x .T) (x .start) (worked x) (x .last)
+between : (x : History) → (x .answers ≡ countAnswers (x .T) (given-reach (x .given)) 1 (x .calls)) × Between (x .given) (x .T) (x .start) (worked x) (x .last)
 between x =
     let d = opened-done (x .given) (x .before) (x .start) (x .T) (x .opened) in
     whole (x .given) (x .T) (x .start) (x .run) 1 (record { holds = d .holds; fills = d .fills; same-length = refl; rest = λ i l. refl })
@@ -185,22 +186,21 @@ demand3-kept x =
           (λ i l. getD-drop (x .T) (x .last) i 0 ∙ b .rest (x .T + i) (omega arith) ∙ sym (getD-drop (x .T) (x .start) i 0));
     }
 
-pub demand3-agree : (x y : History) → Agree x y
-demand3-agree x y e zero low lx ly = absurd (not-suc-le-zero low)
-demand3-agree x y e (suc n) low lx ly =
-    let hx = demand3-kept x .holds in
-    let hy = demand3-kept y .holds in
-    let p : modulus (x .last) ≡ modulus (y .last) = hx .same-modulus ∙ e ∙ sym (hy .same-modulus) in
+-- sheets over one p agree below X^j exactly where what they hold does
+pub holds-agree : (g g′ : Given) (k k′ : ℕ) (s s′ : List ℕ) → Holds g k s → Holds g′ k′ s′ → g .p ≡ g′ .p → (j : ℕ) → 1 ≤ j → j ≤ k → j ≤ k′ → SameLists j s s′ ↔ SameGiven j g g′
+holds-agree g g′ k k′ s s′ hx hy e zero low lx ly = absurd (not-suc-le-zero low)
+holds-agree g g′ k k′ s s′ hx hy e (suc n) low lx ly =
+    let p : modulus s ≡ modulus s′ = hx .same-modulus ∙ e ∙ sym (hy .same-modulus) in
     let kx = hx .same-terms in
     let ky = hy .same-terms in
-    let nx = hx .sound .terms-high in
-    let ny = hy .sound .terms-high in
+    let nx = sound-terms s (hx .sound) in
+    let ny = sound-terms s′ (hy .sound) in
     let dx = hx .same-degree in
     let dy = hy .same-degree in
-    let gx = sound-good (x .last) (hx .sound) in
-    let gy = sound-good (y .last) (hy .sound) in (
+    let gx = sound-good s (hx .sound) in
+    let gy = sound-good s′ (hy .sound) in (
       λ same.
-          let q = good-polynomials (contentOf (x .last)) (contentOf (y .last)) gx gy p n (omega arith) (omega arith) same in
+          let q = good-polynomials (contentOf s) (contentOf s′) gx gy p n (omega arith) (omega arith) same in
           let dq = q .degrees in
           record {
             degrees = sym dx ∙ q .degrees ∙ dy;
@@ -209,13 +209,16 @@ demand3-agree x y e (suc n) low lx ly =
           },
       λ same.
           let ds = same .degrees in
-          good-lists (contentOf (x .last)) (contentOf (y .last)) gx gy p n (omega arith) (omega arith)
+          good-lists (contentOf s) (contentOf s′) gx gy p n (omega arith) (omega arith)
           (record {
             degrees = dx ∙ same .degrees ∙ sym dy;
             columns = λ j l t v.
                 hx .same-polynomial j l t (omega arith) ∙ same .columns j (omega arith) t v ∙ sym (hy .same-polynomial j (omega arith) t (omega arith));
           }),
     )
+
+pub demand3-agree : (x y : History) → Agree x y
+demand3-agree x y = holds-agree (x .given) (y .given) (worked x) (worked y) (x .last) (y .last) (demand3-kept x .holds) (demand3-kept y .holds)
 
 pub demand3 : Demand3
 demand3 = (demand3-kept, demand3-agree)

@@ -1,3 +1,4 @@
 pub mod Demand3Laws
 pub mod ReplayLaws
 pub mod OneLaws
+pub mod FillingLaws

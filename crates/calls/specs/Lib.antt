@@ -1,3 +1,4 @@
 pub mod Calls
 pub mod Replay
+pub mod Filling
 pub mod internal

@@ -12,9 +12,9 @@ ghost use lib.ListN.{length};
 ghost use Rattle.numbers.specs.Words.{over, lowWord};
 ghost use Rattle.numbers.specs.Refusals.{judge, outcome, refused, result, written, Leaves};
 ghost use Rattle.residues.specs.Number.{numberOutcome, sumOf, differenceOf, productOf, inverseNumber};
-ghost use Rattle.series.specs.Series.{seriesChecks, inverseChecks, sums, differences, product, quotient};
+ghost use Rattle.series.specs.Series.{seriesChecks, knownChecks, inverseChecks, sums, differences, product, quotient};
 ghost use Rattle.series.specs.Quotient.{leastPower, quotientChecks, QuotientDone};
-ghost use Rattle.rows.specs.Rows.{rowsChecks, productChecks, shiftChecks, rowProduct, rowShift};
+ghost use Rattle.rows.specs.Rows.{rowsChecks, productChecks, shiftChecks, rowSum, rowProduct, rowShift};
 ghost use Rattle.pair.specs.Paired.{pairChecks, PairDone};
 ghost use Rattle.pair.specs.Pair.{order};
 ghost use Rattle.sheet.specs.Sheet.{Given, givenOf};
@@ -82,12 +82,20 @@ pub extern "C" fn bk_inverse(p: u32, value: u32) -> u64
 }
 
 #[no_mangle]
-pub extern "C" fn bk_series_sum(p: u32, n: u32, g: &[u32], h: &[u32], out: &mut [u32]) -> u64
-    ensures answer { λ r. ⌜ r ≡ packed (result (judge (seriesChecks p n (now (g .entry)) (now (h .entry)) (length (now (out .entry))))) n) ⌝ }
-    ensures words { λ _. ⌜ now (out .exit) ≡ written (judge (seriesChecks p n (now (g .entry)) (now (h .entry)) (length (now (out .entry)))))
-        (over (sums p n (now (g .entry)) (now (h .entry))) (now (out .entry))) (now (out .entry)) ⌝ }
+pub extern "C" fn bk_series_sum(
+    p: u32,
+    n: u32,
+    g: &[u32],
+    gknown: u32,
+    h: &[u32],
+    hknown: u32,
+    out: &mut [u32],
+) -> u64
+    ensures answer { λ r. ⌜ r ≡ packed (result (judge (knownChecks p n (now (g .entry)) gknown (now (h .entry)) hknown (length (now (out .entry))))) n) ⌝ }
+    ensures words { λ _. ⌜ now (out .exit) ≡ written (judge (knownChecks p n (now (g .entry)) gknown (now (h .entry)) hknown (length (now (out .entry)))))
+        (over (sums p n (now (g .entry)) gknown (now (h .entry)) hknown) (now (out .entry))) (now (out .entry)) ⌝ }
 {
-    pack(series::sum(p, n, g, h, out))
+    pack(series::sum(p, n, g, gknown, h, hknown, out))
 }
 
 #[no_mangle]
@@ -100,12 +108,20 @@ pub extern "C" fn bk_series_difference(p: u32, n: u32, g: &[u32], h: &[u32], out
 }
 
 #[no_mangle]
-pub extern "C" fn bk_series_product(p: u32, n: u32, g: &[u32], h: &[u32], out: &mut [u32]) -> u64
-    ensures answer { λ r. ⌜ r ≡ packed (result (judge (seriesChecks p n (now (g .entry)) (now (h .entry)) (length (now (out .entry))))) n) ⌝ }
-    ensures words { λ _. ⌜ now (out .exit) ≡ written (judge (seriesChecks p n (now (g .entry)) (now (h .entry)) (length (now (out .entry)))))
-        (over (product p n (now (g .entry)) (now (h .entry))) (now (out .entry))) (now (out .entry)) ⌝ }
+pub extern "C" fn bk_series_product(
+    p: u32,
+    n: u32,
+    g: &[u32],
+    gknown: u32,
+    h: &[u32],
+    hknown: u32,
+    out: &mut [u32],
+) -> u64
+    ensures answer { λ r. ⌜ r ≡ packed (result (judge (knownChecks p n (now (g .entry)) gknown (now (h .entry)) hknown (length (now (out .entry))))) n) ⌝ }
+    ensures words { λ _. ⌜ now (out .exit) ≡ written (judge (knownChecks p n (now (g .entry)) gknown (now (h .entry)) hknown (length (now (out .entry)))))
+        (over (product p n (now (g .entry)) gknown (now (h .entry)) hknown) (now (out .entry))) (now (out .entry)) ⌝ }
 {
-    pack(series::product(p, n, g, h, out))
+    pack(series::product(p, n, g, gknown, h, hknown, out))
 }
 
 #[no_mangle]
@@ -130,7 +146,7 @@ pub extern "C" fn bk_series_inverse(p: u32, n: u32, g: &[u32], out: &mut [u32]) 
 pub extern "C" fn bk_rows_sum(p: u32, d: u32, n: u32, f: &[u32], g: &[u32], out: &mut [u32]) -> u64
     ensures answer { λ r. ⌜ r ≡ packed (result (judge (rowsChecks p d n (now (f .entry)) (now (g .entry)) (length (now (out .entry))))) ((d + 1) * n)) ⌝ }
     ensures words { λ _. ⌜ now (out .exit) ≡ written (judge (rowsChecks p d n (now (f .entry)) (now (g .entry)) (length (now (out .entry)))))
-        (over (sums p ((d + 1) * n) (now (f .entry)) (now (g .entry))) (now (out .entry))) (now (out .entry)) ⌝ }
+        (over (rowSum p d n (now (f .entry)) (now (g .entry))) (now (out .entry))) (now (out .entry)) ⌝ }
 {
     pack(rows::sum(p, d, n, f, g, out))
 }
@@ -191,19 +207,20 @@ pub extern "C" fn bk_sheet_open(
     d: u32,
     n: u32,
     f: &[u32],
+    lengths: &[u32],
     roots: &[u32],
     out: &mut [u32],
 ) -> u64
     ensures answer { λ r. ⌜
-        (let g : Given = givenOf p d n (now (f .entry)) (now (roots .entry)) in
+        (let g : Given = givenOf p d n (now (f .entry)) (now (lengths .entry)) (now (roots .entry)) in
         r ≡ packed (result (openVerdict g (length (now (out .entry)))) (needed g)))
         ⌝ }
     ensures words { λ _. ⌜
-        (let g : Given = givenOf p d n (now (f .entry)) (now (roots .entry)) in
+        (let g : Given = givenOf p d n (now (f .entry)) (now (lengths .entry)) (now (roots .entry)) in
         Leaves (openVerdict g (length (now (out .entry)))) (OpenDone g (now (out .entry)) (now (out .exit)) (needed g)) (now (out .entry)) (now (out .exit)))
         ⌝ }
 {
-    pack(open::open(p, d, n, f, roots, out))
+    pack(open::open(p, d, n, f, lengths, roots, out))
 }
 
 #[no_mangle]

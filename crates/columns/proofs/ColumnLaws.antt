@@ -197,9 +197,6 @@ append-below p s t hs ht k l =
     subst (λ (i : ℕ). word (s ++ t) i < p) q (rw (getD-append-add s t (k - length s) 0) (ht (k - length s) (omega (arith, length-append s t)))))
     (lt-or-ge k (length s))
 
-pub take-below : (p n : ℕ) (s : List ℕ) → n ≤ length s → AllBelow p s → AllBelow p (take n s)
-take-below p n s g h k l = let e = length-take-le n s g in rw (getD-take n s k 0 (omega arith)) (h k (omega arith))
-
 over-below : (p : ℕ) (xs s : List ℕ) → AllBelow p xs → AllBelow p s → AllBelow p (over xs s)
 over-below p xs s h g = append-below p xs (drop (length xs) s) h (drop-below p (length xs) s g)
 

@@ -1,12 +1,16 @@
 // Examples of document 01 and neighbours of theirs that are not proved as theorems: each line of the output is one call and its outcome,
 // held to the stored output, which a second program computed.
 use libc::STDOUT_FILENO;
+use numbers::limits::LARGEST_DEGREE;
+use numbers::limits::MOST_ROOTS;
 use numbers::refusal::Answer;
 use numbers::refusal::Refusal;
 use residues::Number;
 use residues::NumberAnswer;
+use series::kernel::lesser;
+use series::kernel::repeat;
 ghost use mathlib.Core.Path.{_≡_};
-ghost use Prim.Native.Nat.{ℕ, _+_, _*_, _≤_};
+ghost use Prim.Native.Nat.{_+_, _*_, _≤_};
 ghost use lib.ListN.{length};
 ghost use Rattle.numbers.specs.Words.{part, over};
 ghost use Rattle.numbers.specs.Refusals.{judge, outcome, result, written};
@@ -90,8 +94,13 @@ fn product_of_parts(p: u32, n: u32, words: &[u32], a: usize, b: usize, out: &mut
 }
 
 // One call, and its outcome with the words that it leaves.
-fn say_product(p: u32, n: u32, g: &[u32], h: &[u32], out: &mut [u32]) {
-    let answer = series::product(p, n, g, h, out);
+fn say_sum(p: u32, n: u32, g: &[u32], gknown: u32, h: &[u32], hknown: u32, out: &mut [u32]) {
+    let answer = series::sum(p, n, g, gknown, h, hknown, out);
+    say_words(answer, out);
+}
+
+fn say_product(p: u32, n: u32, g: &[u32], gknown: u32, h: &[u32], hknown: u32, out: &mut [u32]) {
+    let answer = series::product(p, n, g, gknown, h, hknown, out);
     say_words(answer, out);
 }
 
@@ -105,9 +114,17 @@ fn say_pair(p: u32, d: u32, n: u32, f: &[u32], h: u32, w: u32, out: &mut [u32]) 
     say_words(answer, out);
 }
 
-fn say_open(p: u32, d: u32, n: u32, f: &[u32], roots: &[u32], sheet: &mut [u32]) {
-    let answer = open::open(p, d, n, f, roots, sheet);
+fn say_known(p: u32, d: u32, n: u32, f: &[u32], lengths: &[u32], roots: &[u32], sheet: &mut [u32]) {
+    let answer = open::open(p, d, n, f, lengths, roots, sheet);
     say_words(answer, sheet);
+}
+
+// All rows known to n terms.
+fn say_open(p: u32, d: u32, n: u32, f: &[u32], roots: &[u32], sheet: &mut [u32]) {
+    let mut lengths = [0u32; MOST_ROOTS];
+    repeat(n, &mut lengths);
+    let count = lesser(d, LARGEST_DEGREE) as usize;
+    say_known(p, d, n, f, &lengths[..count], roots, sheet);
 }
 
 fn say_extend(sheet: &mut [u32], w: u32) {
@@ -119,11 +136,29 @@ fn series_examples() {
     let g = [1u32, 2, 3];
     let h = [4u32, 5, 6];
     let mut out = [9u32; 4];
-    say_words(series::sum(7, 3, &g, &h, &mut out), &out);
+    say_sum(7, 3, &g, 3, &h, 3, &mut out);
     say_words(series::difference(7, 3, &g, &h, &mut out), &out);
-    say_product(7, 3, &g, &h, &mut out);
+    say_product(7, 3, &g, 3, &h, 3, &mut out);
     say_quotient(7, 3, &g, &h, &mut out);
     say_words(series::inverse(7, 3, &h, &mut out), &out);
+}
+
+// 1 + 2X, known to two terms, with 3 + 2X + X²: the lesser count decides, either way round. A term past a count, a count of 0 and one of 4 are 21; so they are
+// where there is no room besides, and a word too large comes first.
+fn known_counts() {
+    let g = [1u32, 2, 0];
+    let h = [3u32, 2, 1];
+    let mut out = [9u32; 4];
+    say_sum(7, 3, &g, 2, &h, 3, &mut out);
+    say_product(7, 3, &g, 2, &h, 3, &mut out);
+    say_product(7, 3, &h, 3, &g, 2, &mut out);
+    say_product(7, 3, &g, 2, &h, 2, &mut out);
+    say_sum(7, 3, &g, 0, &h, 3, &mut out);
+    say_sum(7, 3, &g, 3, &h, 4, &mut out);
+    let mut short = [9u32; 2];
+    say_product(7, 3, &g, 1, &h, 3, &mut short);
+    let large = [3u32, 7, 0];
+    say_product(7, 3, &large, 1, &h, 3, &mut short);
 }
 
 // X + X² by X, zeros by 5X + 6X², and more with X in common; zeros by zeros are refused.
@@ -150,11 +185,11 @@ fn series_refusals() {
     say_quotient(7, 3, &g, &zero, &mut out);
     say_quotient(7, 3, &g, &zero, &mut short);
     say_words(series::inverse(7, 3, &zero, &mut short), &short);
-    say_product(7, 3, &g, &large, &mut out);
-    say_product(7, 3, &large, &g, &mut out);
-    say_product(7, 4, &g, &large, &mut out);
-    say_product(7, 257, &g, &large, &mut out);
-    say_product(6, 0, &g, &large, &mut out);
+    say_product(7, 3, &g, 3, &large, 3, &mut out);
+    say_product(7, 3, &large, 3, &g, 3, &mut out);
+    say_product(7, 4, &g, 4, &large, 4, &mut out);
+    say_product(7, 257, &g, 257, &large, 257, &mut out);
+    say_product(6, 0, &g, 0, &large, 0, &mut out);
 }
 
 fn row_examples() {
@@ -233,19 +268,19 @@ fn extend_front(s: &mut [u32], lent: usize, w: u32) -> Answer
 fn job_sheet() {
     let f = [6u32, 6, 0, 0, 0, 0, 1, 0, 0];
     let roots = [1u32, 6];
-    let mut short = [99u32; 28];
+    let mut short = [99u32; 31];
     say_open(7, 2, 3, &f, &roots, &mut short);
-    let mut s = [99u32; 30];
+    let mut s = [99u32; 33];
     say_open(7, 2, 3, &f, &roots, &mut s);
     say_test(&s);
     say_extend(&mut s, 2);
     say_extend(&mut s, 3);
     say_extend(&mut s, 2);
     say_extend(&mut s, 4);
-    say_words(extend_front(&mut s, 28, 3), &s);
+    say_words(extend_front(&mut s, 31, 3), &s);
     say_list(sheet::factor_rows(&s, 1));
     say(b"\n");
-    s[24] = 5;
+    s[27] = 5;
     say_test(&s);
     say_extend(&mut s, 3);
 }
@@ -254,16 +289,16 @@ fn job_sheet() {
 fn job_calls() {
     let f = [6u32, 6, 0, 0, 0, 0, 1, 0, 0];
     let roots = [1u32, 6];
-    let mut s = [99u32; 30];
+    let mut s = [99u32; 33];
     say_open(7, 2, 3, &f, &roots, &mut s);
-    let lent = [30u32, 28, 29, 30, 30];
+    let lent = [33u32, 31, 32, 33, 33];
     let goals = [2u32, 3, 3, 2, 4];
     let mut answers = [9u32; 11];
     say_words(calls::replay(&mut s, &lent, &goals, &mut answers), &answers);
     say_list(&s);
     say(b"\n");
     // a call that lends more than there is; no room for the answers
-    let more = [31u32, 28, 29, 30, 30];
+    let more = [34u32, 31, 32, 33, 33];
     say_words(calls::replay(&mut s, &more, &goals, &mut answers), &answers);
     let mut few = [9u32; 9];
     say_words(calls::replay(&mut s, &lent, &goals, &mut few), &few);
@@ -305,7 +340,7 @@ fn three_roots() {
         0,
     ];
     let roots = [0u32, 1, 3];
-    let mut s = [9u32; 53];
+    let mut s = [9u32; 58];
     say_open(5, 4, 4, &f, &roots, &mut s);
     say_extend(&mut s, 4);
     say_test(&s);
@@ -314,8 +349,41 @@ fn three_roots() {
     s[3] = 5;
     say_test(&s);
     s[3] = 4;
-    s[51] = 1;
+    s[56] = 1;
     say_test(&s);
+}
+
+// The job again, row 0 known to two terms: it is worked to two, not to three, and may not claim that more is known.
+fn short_row() {
+    let f = [6u32, 6, 0, 0, 0, 0, 1, 0, 0];
+    let roots = [1u32, 6];
+    let lengths = [2u32, 3];
+    let mut s = [99u32; 33];
+    say_known(7, 2, 3, &f, &lengths, &roots, &mut s);
+    say_extend(&mut s, 3);
+    say_extend(&mut s, 2);
+    say_test(&s);
+    s[10] = 3;
+    say_test(&s);
+    s[11] = 3;
+    say_test(&s);
+}
+
+// A length of 0, one of 4, and one that leaves a word past it: 21, before a root list that falls. One length for two rows is 5.
+fn length_refusals() {
+    let f = [6u32, 6, 0, 0, 0, 0, 1, 0, 0];
+    let falling = [6u32, 1];
+    let mut s = [9u32; 3];
+    let none = [0u32, 3];
+    say_known(7, 2, 3, &f, &none, &falling, &mut s);
+    let beyond = [2u32, 4];
+    say_known(7, 2, 3, &f, &beyond, &falling, &mut s);
+    let cut = [1u32, 3];
+    say_known(7, 2, 3, &f, &cut, &falling, &mut s);
+    let fine = [2u32, 1];
+    say_known(7, 2, 3, &f, &fine, &falling, &mut s);
+    let one = [2u32];
+    say_known(7, 2, 3, &f, &one, &falling, &mut s);
 }
 
 // Y^32 with one term passes, a degree bound of 33 or 0 doesn't.
@@ -323,7 +391,7 @@ fn largest_degree() {
     let mut f = [0u32; 33];
     f[32] = 1;
     let roots = [0u32];
-    let mut s = [9u32; 78];
+    let mut s = [9u32; 111];
     say_open(7, 33, 1, &f, &roots, &mut s);
     say_open(7, 0, 1, &f, &roots, &mut s);
     say_open(7, 32, 1, &f, &roots, &mut s);
@@ -335,7 +403,7 @@ fn most_terms() {
     f[1] = 1;
     f[256] = 1;
     let roots = [0u32];
-    let mut s = [9u32; 781];
+    let mut s = [9u32; 783];
     say_open(7, 1, 257, &f, &roots, &mut s);
     say_open(7, 1, 256, &f, &roots, &mut s);
     say_extend(&mut s, 257);
@@ -386,6 +454,7 @@ fn main() {
     all_four(4294967295, 4294967295, 4294967295);
     all_four(2, 1, 1);
     series_examples();
+    known_counts();
     common_powers();
     series_refusals();
     row_examples();
@@ -394,6 +463,8 @@ fn main() {
     long_pair();
     job_sheet();
     job_calls();
+    short_row();
+    length_refusals();
     three_roots();
     largest_degree();
     most_terms();

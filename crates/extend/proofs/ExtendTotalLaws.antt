@@ -17,7 +17,7 @@ use Rattle.numbers.specs.declared.refusal.Verdict.the-variants.{Pass, Refuse}
 use Rattle.numbers.specs.One.{OneOutcome}
 use Rattle.numbers.proofs.OneLaws.{verdict-one}
 use Rattle.numbers.proofs.RefusalsLaws.{none-judged, inside, pass-check, take-check, skip-check}
-use Rattle.layout.specs.Layout.{terms, width, reach}
+use Rattle.layout.specs.Layout.{terms, reach}
 use Rattle.sheet.specs.Sheet.{Sound}
 use Rattle.sheet.specs.Test.{soundTest}
 use Rattle.sheet.specs.Reading.{soundCheck}
@@ -29,7 +29,7 @@ module _ (old : List ℕ) (w : ℕ) where
   pub record Able : Type 0 where
     pub sound : Sound old
     pub low : terms old ≤ w
-    pub high : w ≤ width old
+    pub high : w ≤ reach old
 
   pub extend-able : extendVerdict old w ≡ Pass → Able
   unfolding extendVerdict
@@ -64,16 +64,16 @@ module _ (old : List ℕ) (w : ℕ) where
     pub extend-outside : outside 1 (reach old) w ≡ true → extendVerdict old w ≡ Refuse (refusal 14 0)
     extend-outside e = past-sound ∙ take-check (beyondCheck (reach old) w) _ e
 
-    pub extend-beyond : (w ≡ 0) ⊎ (width old < w) → extendVerdict old w ≡ Refuse (refusal 14 0)
+    pub extend-beyond : (w ≡ 0) ⊎ (reach old < w) → extendVerdict old w ≡ Refuse (refusal 14 0)
     extend-beyond u = extend-outside (go u)
       where
-        go : (w ≡ 0) ⊎ (width old < w) → outside 1 (width old) w ≡ true
+        go : (w ≡ 0) ⊎ (reach old < w) → outside 1 (reach old) w ≡ true
         go (inl e) = rw (lt-ltb w 1 (omega arith))
-        go (inr l) = rw (lt-ltb (width old) w l) (or-true (ltb w 1))
+        go (inr l) = rw (lt-ltb (reach old) w l) (or-true (ltb w 1))
 
-    module _ (low : 1 ≤ w) (high : w ≤ width old) where
+    module _ (low : 1 ≤ w) (high : w ≤ reach old) where
       past-range : extendVerdict old w ≡ judge (behindCheck (terms old) w ∷ [])
-      past-range = past-sound ∙ skip-check (beyondCheck (reach old) w) _ (ap₂ _||_ (le-ltb w 1 low) (le-ltb (width old) w high))
+      past-range = past-sound ∙ skip-check (beyondCheck (reach old) w) _ (ap₂ _||_ (le-ltb w 1 low) (le-ltb (reach old) w high))
 
       pub extend-behind : w < terms old → extendVerdict old w ≡ Refuse (refusal 15 0)
       extend-behind l = past-range ∙ take-check (behindCheck (terms old) w) [] (lt-ltb w (terms old) l)

@@ -11,26 +11,26 @@ use mathlib.Core.List.{List}
 use lib.ListN.{length, drop, set, length-set, List·getD-append}
 use lib.Seq.{getD-set-same, getD-set-other, getD-drop}
 use Rattle.numbers.specs.Words.{word, over}
-use Rattle.numbers.proofs.WordsLaws.{lt-or-ge, length-over, over-past, from, from-is, length-from}
+use Rattle.numbers.proofs.WordsLaws.{lt-or-ge, up-low, least-le, length-over, over-past, from, from-is, length-from}
 use Rattle.columns.proofs.ColumnLaws.{putFrom}
 use Rattle.solution.proofs.DigitsLaws.{put-kept, put-drop, put-long}
 use Rattle.layout.specs.declared.Header.{Header}
 use Rattle.layout.specs.internal.Places.{HeaderIs}
 use Rattle.layout.proofs.PlacesLaws.{header-factors}
-use Rattle.layout.specs.Layout.{modulus, degree, width, termsAt, terms, count, factorsFrom, root, power, end, polynomial, factorRows, rootsFrom}
+use Rattle.layout.specs.Layout.{modulus, degree, width, termsAt, terms, count, reach, known, lengthsFrom, rootsFrom, factorsFrom, root, power, end, polynomial, factorRows}
 use Rattle.sheet.specs.Sheet.{Sound}
 use Rattle.front.specs.internal.Front.{Front}
 use Rattle.sheet.specs.internal.Stages.{Computed}
 use Rattle.layout.proofs.RegionsLaws.{in-rows, by-region}
 use Rattle.sheet.specs.internal.Content.{Content, contentOf, size, headerWords, sheetWords}
-use Rattle.sheet.proofs.ContentLaws.{word-header, word-root, word-power, word-polynomial, word-factors}
-use Rattle.sheet.proofs.SheetsLaws.{Good, sound-words, words-sound}
-use Rattle.sheet.proofs.SoundStagesLaws.{sound-same, up-low}
+use Rattle.sheet.proofs.ContentLaws.{word-header, word-known, word-root, word-power, word-polynomial, word-factors}
+use Rattle.sheet.proofs.SheetsLaws.{Good, sound-terms, sound-words, words-sound}
+use Rattle.sheet.proofs.SoundStagesLaws.{sound-same}
 use Rattle.extend.specs.Extend.{InColumns, ExtendDone}
 use Rattle.extend.specs.internal.Stored.{Stored}
 use Rattle.extend.proofs.ExtendingLaws.{untouched}
 
-module _ (old : List ℕ) (h : Sound old) (front : Front old) (w : ℕ) (low : terms old ≤ w) (high : w ≤ width old) (rows : List ℕ) (g : Computed old w rows)
+module _ (old : List ℕ) (h : Sound old) (front : Front old) (w : ℕ) (low : terms old ≤ w) (high : w ≤ reach old) (rows : List ℕ) (g : Computed old w rows)
     (new : List ℕ) (st : Stored old w rows new) where
   abbrev first : ℕ
   first = factorsFrom (degree old) (width old) (count old)
@@ -43,11 +43,16 @@ module _ (old : List ℕ) (h : Sound old) (front : Front old) (w : ℕ) (low : t
     N = width old;
     k = w;
     r = count old;
+    m = reach old;
+    known = known old;
     root = root old;
     power = power old;
     f = polynomial old;
     factors = λ j t. word rows (j * width old + t);
   }
+
+  wide : w ≤ width old
+  wide = omega (arith, high, h .reached, least-le (width old) (known old) (degree old))
 
   cell : (j : ℕ) → j < degree old → (t : ℕ) → t < width old → j * width old + t < degree old * width old
   cell j l t u = in-rows (degree old) (width old) j t l u
@@ -63,12 +68,14 @@ module _ (old : List ℕ) (h : Sound old) (front : Front old) (w : ℕ) (low : t
     terms-high = high;
     reduced = h .polynomial-reduced;
     top = h .polynomial-monic;
+    lengths = h .lengths;
+    reached = h .reached;
     factors = g .factors;
-    factors-reduced = λ j l t u. g .below (j * width old + t) (omega (arith, cell j l t (omega arith), g .long));
+    factors-reduced = λ j l t u. g .below (j * width old + t) (omega (arith, cell j l t (omega (arith, wide)), g .long));
     factors-rest = g .rest;
   }
 
-  header : (i : ℕ) → i < 10 → word new i ≡ word (headerWords c) i
+  header : (i : ℕ) → i < lengthsFrom → word new i ≡ word (headerWords c) i
   header zero l = st .others 0 (omega arith) (inl (omega arith))
   header (suc zero) l = st .others 1 (omega arith) (inl (omega arith))
   header (suc (suc zero)) l = st .others 2 (omega arith) (inl (omega arith))
@@ -77,10 +84,11 @@ module _ (old : List ℕ) (h : Sound old) (front : Front old) (w : ℕ) (low : t
       st .others (suc (suc (suc (suc i)))) (omega arith) (inl (omega arith)) ∙ sound-words old h (suc (suc (suc (suc i)))) (omega arith) ∙ word-header (contentOf old) (suc (suc (suc (suc i)))) l
 
   agree : (i : ℕ) → i < end old → word new i ≡ word (sheetWords c) i
-  agree = by-region (λ i. word new i ≡ word (sheetWords c) i) (degree old) (width old) (count old) (let a = h .terms-low in let b = h .terms-high in omega arith)
+  agree = by-region (λ i. word new i ≡ word (sheetWords c) i) (degree old) (width old) (count old) (let a = h .terms-low in let b = sound-terms old h in omega arith)
       (λ i l. header i l ∙ sym (word-header c i l))
-      (λ i l. st .others (rootsFrom + 2 * i) (omega arith) (inl (omega arith)) ∙ sym (word-root c i l))
-      (λ i l. st .others (rootsFrom + 2 * i + 1) (omega arith) (inl (omega arith)) ∙ sym (word-power c i l))
+      (λ j l. st .others (lengthsFrom + j) (omega arith) (inl (omega arith)) ∙ sym (word-known c j l))
+      (λ i l. st .others (rootsFrom (degree old) + 2 * i) (omega arith) (inl (omega arith)) ∙ sym (word-root c i l))
+      (λ i l. st .others (rootsFrom (degree old) + 2 * i + 1) (omega arith) (inl (omega arith)) ∙ sym (word-power c i l))
       (λ j l t u. st .others _ (omega arith) (inl (omega (arith, in-rows (degree old + 1) (width old) j t (omega arith) u))) ∙ sym (word-polynomial c j t l u))
       (λ j l t u. ap (word new) (add-assoc first (j * width old) t) ∙ st .factors (j * width old + t) (cell j l t u) ∙ sym (word-factors c j t l u))
 
@@ -95,7 +103,7 @@ module _ (old : List ℕ) (h : Sound old) (front : Front old) (w : ℕ) (low : t
       (λ (l : first ≤ i). ⊎-elim
       (λ (v : i < end old).
       let N = width old in
-      let pos : zero < N = let a = h .terms-low in let b = h .terms-high in omega arith in
+      let pos : zero < N = let a = h .terms-low in let b = sound-terms old h in omega arith in
       let q = (i - first) / N in let t = (i - first) % N in
       let e : first + q * N + t ≡ i = let z = div-add-mod' (i - first) N in omega arith in
       let lt : t < N = mod-lt (i - first) pos in

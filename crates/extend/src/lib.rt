@@ -20,7 +20,7 @@ ghost use Rattle.sheet.specs.internal.Stages.{Computed};
 ghost use Rattle.extend.specs.Extend.{Extended, extendVerdict};
 ghost use Rattle.extend.specs.internal.Stored.{Stored};
 
-// The terms to work out: w where a sheet of k terms and n columns can have them, else k.
+// The terms to work out of a sheet that has k and can have up to n: w where it can have them, else k.
 fn terms_to(k: usize, n: usize, w: usize) -> usize
     requires { ⌜ k ≤ n ⌝ }
     ensures low { λ r. ⌜ k ≤ r ⌝ }
@@ -42,11 +42,11 @@ fn check_extend(sheet: &[u32], w: u32, rows: &mut [u32]) -> Verdict
     ensures rows { λ r. ⌜ (r ≡ Pass → Computed (now (sheet .entry)) w (now (rows .exit))) ⌝ }
 {
     let h = read_header(sheet);
-    let to = terms_to(h.terms, h.width, w as usize);
+    let to = terms_to(h.terms, h.reach, w as usize);
     if !factors_fit(sheet, to, rows) {
         return refuse(13, 0);
     }
-    if outside(1, h.width as u32, w) {
+    if outside(1, h.reach as u32, w) {
         return refuse(14, 0);
     }
     if (w as usize) < h.terms {

@@ -1,24 +1,26 @@
 // The test of what stands in a sheet before the factors' rows, stage after stage: a stage reads only words whose place the stages before it have found to be
 // there.
-use layout::ROOTS_FROM;
+use layout::LENGTHS_FROM;
 use layout::factors_from;
+use layout::lengths::least_length;
+use layout::lengths::rows_known;
 use layout::polynomial_from;
 use layout::power_at;
 use layout::read_header;
 use layout::read_offsets;
 use layout::root_at;
+use layout::roots_from;
 use layout::total_of;
 use numbers::judge::check_modulus;
 use numbers::limits::LARGEST_DEGREE;
 use numbers::limits::LARGEST_WIDTH;
 use numbers::refusal::Verdict;
-ghost use mathlib.Core.Path.{_≡_};
 ghost use Prim.Native.Nat.{_+_, _*_, _≤_, _<_};
 ghost use lib.ListN.{length};
 ghost use Rattle.numbers.specs.internal.Facts.{Decides};
-ghost use Rattle.numbers.specs.Limits.{largestDegree, largestWidth};
-ghost use Rattle.layout.specs.Layout.{polynomialFrom};
-ghost use Rattle.front.specs.internal.Front.{OneTo, HeaderFits, PowersFit, OffsetsFit, Shape, RootsBelow, RootsRise, RowsBelow, PolynomialFits, Front};
+ghost use Rattle.numbers.specs.Limits.{largestDegree};
+ghost use Rattle.layout.specs.Layout.{degree, polynomialFrom};
+ghost use Rattle.front.specs.internal.Front.{OneTo, HeaderFits, PowersFit, OffsetsFit, Shape, RootsBelow, RootsRise, RowsBelow, PolynomialFits, LengthsFit, Front};
 
 // Whether n is from 1 to high.
 fn one_to(high: usize, n: usize) -> bool
@@ -30,11 +32,11 @@ fn one_to(high: usize, n: usize) -> bool
     n <= high
 }
 
-// Words 0 to 4, and room for the roots and powers.
+// Words 0 to 4 and 10, and room for the lengths, the roots and the powers.
 fn header_fits(s: &[u32]) -> bool
     ensures { λ b. ⌜ Decides b (HeaderFits (now (s .entry))) ⌝ }
 {
-    if s.len() < ROOTS_FROM {
+    if s.len() < LENGTHS_FROM {
         return false;
     }
     let h = read_header(s);
@@ -47,18 +49,21 @@ fn header_fits(s: &[u32]) -> bool
     if (LARGEST_WIDTH as usize) < h.width {
         return false;
     }
-    if !one_to(h.width, h.terms) {
+    if h.width < h.reach {
+        return false;
+    }
+    if !one_to(h.reach, h.terms) {
         return false;
     }
     if !one_to(h.degree, h.count) {
         return false;
     }
-    polynomial_from(h.count) <= s.len()
+    polynomial_from(h.degree, h.count) <= s.len()
 }
 
 // The powers are 1 or more and come to d.
 fn powers_fit(s: &[u32], r: usize, d: usize) -> bool
-    requires { ⌜ (r ≤ largestDegree) × (polynomialFrom r ≤ length (now s)) ⌝ }
+    requires { ⌜ (r ≤ largestDegree) × (degree (now s) ≤ largestDegree) × (polynomialFrom (degree (now s)) r ≤ length (now s)) ⌝ }
     ensures { λ b. ⌜ Decides b (PowersFit (now (s .entry)) r d) ⌝ }
 {
     let mut left = d;
@@ -81,10 +86,10 @@ fn offsets_fit(s: &[u32]) -> bool
 {
     let h = read_header(s);
     let o = read_offsets(s);
-    if o.roots != ROOTS_FROM {
+    if o.roots != roots_from(h.degree) {
         return false;
     }
-    if o.polynomial != polynomial_from(h.count) {
+    if o.polynomial != polynomial_from(h.degree, h.count) {
         return false;
     }
     if o.factors != factors_from(h.degree, h.width, h.count) {
@@ -115,7 +120,7 @@ fn shape_fits(s: &[u32]) -> bool
 }
 
 fn roots_below(s: &[u32], r: usize, p: u32) -> bool
-    requires { ⌜ (r ≤ largestDegree) × (polynomialFrom r ≤ length (now s)) ⌝ }
+    requires { ⌜ (r ≤ largestDegree) × (degree (now s) ≤ largestDegree) × (polynomialFrom (degree (now s)) r ≤ length (now s)) ⌝ }
     ensures { λ b. ⌜ Decides b (RootsBelow (now (s .entry)) r p) ⌝ }
 {
     let mut i = 0;
@@ -129,7 +134,7 @@ fn roots_below(s: &[u32], r: usize, p: u32) -> bool
 }
 
 fn roots_rise(s: &[u32], r: usize) -> bool
-    requires { ⌜ (r ≤ largestDegree) × (polynomialFrom r ≤ length (now s)) ⌝ }
+    requires { ⌜ (r ≤ largestDegree) × (degree (now s) ≤ largestDegree) × (polynomialFrom (degree (now s)) r ≤ length (now s)) ⌝ }
     ensures { λ b. ⌜ Decides b (RootsRise (now (s .entry)) r) ⌝ }
 {
     let mut i = 0;
@@ -157,7 +162,7 @@ fn polynomial_fits(s: &[u32]) -> bool
 {
     let h = read_header(s);
     let n = h.width;
-    let from = polynomial_from(h.count);
+    let from = polynomial_from(h.degree, h.count);
     if !rows_below(h.p, s, from, n, h.degree + 1, 0, n) {
         return false;
     }
@@ -166,6 +171,19 @@ fn polynomial_fits(s: &[u32]) -> bool
         return false;
     }
     rows_below(1, s, top, n, 1, 1, n)
+}
+
+// The known lengths with the rows, and their least.
+fn lengths_fit(s: &[u32]) -> bool
+    requires { ⌜ Shape (now s) ⌝ }
+    ensures { λ b. ⌜ Decides b (LengthsFit (now (s .entry))) ⌝ }
+{
+    let h = read_header(s);
+    let lengths = layout::lengths_part(s);
+    if !rows_known(h.width, layout::lower_part(s), lengths) {
+        return false;
+    }
+    least_length(h.width as u32, lengths) as usize == h.reach
 }
 
 // All that stands before the factors' rows.
@@ -182,5 +200,8 @@ pub fn front_fits(s: &[u32]) -> bool
     if !roots_rise(s, h.count) {
         return false;
     }
-    polynomial_fits(s)
+    if !polynomial_fits(s) {
+        return false;
+    }
+    lengths_fit(s)
 }

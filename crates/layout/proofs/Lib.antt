@@ -1,3 +1,4 @@
+pub mod LengthsLaws
 pub mod PlacesLaws
 pub mod RegionsLaws
 pub mod WritingLaws

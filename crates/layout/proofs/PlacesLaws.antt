@@ -40,8 +40,8 @@ pub record Small (s : List ℕ) (i : ℕ) : Type 0 where
 
 -- what was read of the header, put to use
 module _ (s : List ℕ) (h : Header) (e : HeaderIs s h) where
-  pub header-polynomial : polynomialFrom (h .count) ≡ polynomialFrom (count s)
-  header-polynomial = ap polynomialFrom (e .count-is)
+  pub header-polynomial : polynomialFrom (h .degree) (h .count) ≡ polynomialFrom (degree s) (count s)
+  header-polynomial = simp (e .degree-is, e .count-is)
 
   pub header-factors : factorsFrom (h .degree) (h .width) (h .count) ≡ factorsFrom (degree s) (width s) (count s)
   header-factors = simp (e .degree-is, e .width-is, e .count-is)
@@ -53,7 +53,7 @@ module _ (s : List ℕ) (h : Header) (e : HeaderIs s h) where
   header-size = ap₂ (λ (x y : ℕ). x * y) (e .degree-is) (e .width-is)
 
 module _ (s : List ℕ) (h : Placed s) where
-  pub placed-entries : polynomialFrom (count s) ≤ length s
+  pub placed-entries : polynomialFrom (degree s) (count s) ≤ length s
   placed-entries = let l = h .long in omega arith
 
   pub upto-power : (i : ℕ) → i < count s → sumTo i (power s) + power s i ≤ degree s
@@ -65,7 +65,7 @@ module _ (s : List ℕ) (h : Placed s) where
   pub rows-before : (i : ℕ) → i < count s → sumTo i (power s) ≤ largestDegree
   rows-before i l = let z = upto-power i l in let e = h .degree-high in omega arith
 
-  pub lower-within : polynomialFrom (count s) + degree s * width s ≤ length s
+  pub lower-within : polynomialFrom (degree s) (count s) + degree s * width s ≤ length s
   lower-within = let l = h .long in omega arith
 
   pub factors-within : factorsFrom (degree s) (width s) (count s) + degree s * width s ≤ length s

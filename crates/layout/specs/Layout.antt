@@ -2,9 +2,10 @@
 --   rowsAt s o N j t                               row j, column t of rows of N words from word o on
 --   modulus, degree, width, terms, count           header words 0 to 4: p, D, N, k, r
 --   termsAt                                        the place of k, which extend sets
---   reach                                          the most terms that there can be
---   rootsFrom, polynomialFrom, factorsFrom, total  where roots and rows begin, from D, N and r, and T, where they end
---   headerOf p D N k r                             the ten words of the header
+--   reach                                          header word 10: the least known length, which is the most terms that there can be
+--   known s j                                      the known length of row j of the polynomial, j below D
+--   lengthsFrom, rootsFrom, polynomialFrom, factorsFrom, total   where lengths, roots and rows begin, from D, N and r, and T, where they end
+--   headerOf p D N k r m                           the eleven words of the header
 --   root, power, polynomial, factorRows, factor, end   readers by name
 --   factorFrom, factorSize, factorPart             where the rows of a factor stand, how many words they have, and these words
 -- Assumes nothing.
@@ -36,40 +37,47 @@ terms s = word s termsAt
 abbrev pub count : List ℕ → ℕ
 count s = word s 4
 
--- the most terms that there can be
+-- the least of the known lengths: the most terms that there can be
 abbrev pub reach : List ℕ → ℕ
-reach s = width s
+reach s = word s 10
 
--- the roots follow the header, two words each: root, then power
-abbrev pub rootsFrom : ℕ
-rootsFrom = 10
+-- the header is followed by the known lengths of rows 0..D − 1
+abbrev pub lengthsFrom : ℕ
+lengthsFrom = 11
 
-abbrev pub polynomialFrom : ℕ → ℕ
-polynomialFrom r = rootsFrom + 2 * r
+abbrev pub known : List ℕ → ℕ → ℕ
+known s j = word s (lengthsFrom + j)
+
+-- then come the roots, two words each: root, then power
+abbrev pub rootsFrom : (D : ℕ) → ℕ
+rootsFrom D = lengthsFrom + D
+
+abbrev pub polynomialFrom : (D r : ℕ) → ℕ
+polynomialFrom D r = rootsFrom D + 2 * r
 
 abbrev pub factorsFrom : (D N r : ℕ) → ℕ
-factorsFrom D N r = polynomialFrom r + (D + 1) * N
+factorsFrom D N r = polynomialFrom D r + (D + 1) * N
 
 -- the factors have D rows: T is where they end
 abbrev pub total : (D N r : ℕ) → ℕ
-total D N r = polynomialFrom r + (2 * D + 1) * N
+total D N r = polynomialFrom D r + (2 * D + 1) * N
 
--- the ten words of the header
-abbrev pub headerOf : (p D N k r : ℕ) → List ℕ
-headerOf p D N k r = p ∷ D ∷ N ∷ k ∷ r ∷ rootsFrom ∷ polynomialFrom r ∷ factorsFrom D N r ∷ total D N r ∷ total D N r ∷ []
+-- the eleven words of the header
+abbrev pub headerOf : (p D N k r m : ℕ) → List ℕ
+headerOf p D N k r m = p ∷ D ∷ N ∷ k ∷ r ∷ rootsFrom D ∷ polynomialFrom D r ∷ factorsFrom D N r ∷ total D N r ∷ total D N r ∷ m ∷ []
 
 -- readers
 abbrev pub root : List ℕ → ℕ → ℕ
-root s i = word s (rootsFrom + 2 * i)
+root s i = word s (rootsFrom (degree s) + 2 * i)
 
 abbrev pub power : List ℕ → ℕ → ℕ
-power s i = word s (rootsFrom + 2 * i + 1)
+power s i = word s (rootsFrom (degree s) + 2 * i + 1)
 
 abbrev pub end : List ℕ → ℕ
 end s = total (degree s) (width s) (count s)
 
 abbrev pub polynomial : List ℕ → ℕ → ℕ → ℕ
-polynomial s = rowsAt s (polynomialFrom (count s)) (width s)
+polynomial s = rowsAt s (polynomialFrom (degree s) (count s)) (width s)
 
 -- all factors' rows, and those of factor i
 abbrev pub factorRows : List ℕ → ℕ → ℕ → ℕ

@@ -4,6 +4,7 @@
 --   opened-holds, extended-holds   an accepted open, and then extend to N, leave a sheet that holds what the job gives
 --   text-refused, text-listed  the text under a verdict
 --   wrote-refused, wrote-listed, given-listable   after open: its refusal, or else extend to N
+--   repeated-fits, repeated-first   the first words of an array, all made one
 --   wrote-early, wrote-job     the text of a job, by its own checks or by open's
 --   listed-fits, listed-never  an accepted listing is within its room; `textRoom` bytes are always enough
 --   listing-same               two sheets that hold it have one listing
@@ -31,12 +32,14 @@ use Rattle.numbers.specs.One.{One}
 use Rattle.numbers.proofs.OneLaws.{one-same}
 use Rattle.numbers.proofs.RefusalsLaws.{after-pass, after-refuse, pass-parts, take-check, skip-check, none-judged, answer-refused, unlike, accepted-pass}
 use Rattle.numbers.proofs.WordsLaws.{tabulate-ext, length-tabulate}
-use Rattle.layout.specs.Layout.{modulus, degree, width, terms, count, root, power, factor, rootsFrom, factorsFrom, end}
-use Rattle.sheet.specs.Sheet.{Given, Holds, givenOf, Sound}
+use Rattle.layout.specs.Layout.{modulus, degree, width, terms, count, reach, root, power, factor, rootsFrom, factorsFrom, end}
+use Rattle.sheet.specs.Sheet.{Sound, Given, wholeOf, given-reach, Holds}
 use Rattle.layout.proofs.PlacesLaws.{upto-power, count-sum}
 use Rattle.layout.proofs.RegionsLaws.{in-rows}
 use Rattle.sheet.proofs.ReadingLaws.{sound-placed}
 use Rattle.sheet.proofs.SoundTestLaws.{sound-test}
+use Rattle.sheet.proofs.SheetsLaws.{sound-terms}
+use Rattle.sheet.proofs.HoldsLaws.{whole-reach, holds-reach}
 use Rattle.sheet.proofs.UniqueLaws.{holds-unique}
 use Rattle.extend.specs.Extend.{extendVerdict, ExtendDone, Extended}
 use Rattle.extend.proofs.ExtendingLaws.{extend-holds}
@@ -61,7 +64,7 @@ pub listable : (s : List ℕ) → Sound s → degree s ≤ mostDegree → width 
 listable s sound d n = record {
   placed = sound-placed s sound;
   degree-high = d;
-  width-low = omega (arith, sound .terms-low, sound .terms-high);
+  width-low = omega (arith, sound .terms-low, sound-terms s sound);
   width-high = n;
   count-high = omega (arith, count-sum (count s) (power s) (sound .factors .powers), sound .factors .degree);
 }
@@ -122,10 +125,10 @@ module _ (g : Given) (k : ℕ) (s u : List ℕ) (hs : Holds g k s) (hu : Holds g
   same-r = agree 4 (omega arith)
 
   same-root : (i : ℕ) → i < count s → root s i ≡ root u i
-  same-root i l = agree (rootsFrom + 2 * i) (omega arith)
+  same-root i l = agree (rootsFrom (degree s) + 2 * i) (omega arith) ∙ ap (λ (D : ℕ). word u (rootsFrom D + 2 * i)) same-D
 
   same-power : (i : ℕ) → i < count s → power s i ≡ power u i
-  same-power i l = agree (rootsFrom + 2 * i + 1) (omega arith)
+  same-power i l = agree (rootsFrom (degree s) + 2 * i + 1) (omega arith) ∙ ap (λ (D : ℕ). word u (rootsFrom D + 2 * i + 1)) same-D
 
   factor-place : (i j t : ℕ) → i < count s → j < power s i → t < width s → factorsFrom (degree s) (width s) (count s) + (sumTo i (power s) + j) * width s + t < end s
   factor-place i j t l m n =
@@ -177,6 +180,11 @@ text-refused v g r e = record {
 pub text-listed : (v : Verdict) (g : Given) (s : List ℕ) → v ≡ Pass → Holds g (g .N) s → TextOf v g (listingText s)
 text-listed v g s e h = record { refused = λ q f. never v q f e; listed = λ f u k. listing-same g (g .N) s u h k }
 
+-- a job's rows are all known to N
+job-reach : (b : List ℕ) → given-reach (jobGiven b) ≡ jobGiven b .N
+unfolding jobGiven
+job-reach b = whole-reach (jobModulus b) (jobDegree b) (jobWidth b) (jobGiven b .rows) (jobGiven b .roots)
+
 -- each job comes to exactly one text
 pub one-listing : (job : List ℕ) → One (IsListing job)
 one-listing job = go (listVerdict job) refl
@@ -185,7 +193,7 @@ one-listing job = go (listVerdict job) refl
     go Pass e =
         let g = jobGiven job in
         let ready = open-ready g (needed g) (pass-open job e) .0 in
-        let one = sheet-exists g ready (g .N) (ready .width-low) (omega arith) in
+        let one = sheet-exists g ready (g .N) (ready .width-low) (omega (arith, job-reach job)) in
         (listingText (one .words), record { is = text-listed (listVerdict job) g (one .words) e (one .holds); only = λ other x. x .listed e (one .words) (one .holds) })
     go (Refuse r) e = (refusedText (r .number) (r .detail), record { is = text-refused (listVerdict job) (jobGiven job) r e; only = λ other x. x .refused r e })
 
@@ -233,14 +241,14 @@ list-verdict b room e q =
     let n = list-room (jobGiven b) (l .degree-high) (l .width-high) (omega (arith, l .count-high, length-tabulate (jobCount b) (λ i. field b (headFields + i)))) in
     list-opens b e ∙ sym (open-room (jobGiven b) room (omega arith))
 
--- what open leaves can be extended to any number of terms from 1 to N
-pub extend-passes : (g : Given) (s : List ℕ) (w : ℕ) → Holds g 1 s → 1 ≤ w → w ≤ g .N → extendVerdict s w ≡ Pass
+-- what open leaves can be extended to any number of terms from 1 to the least known length
+pub extend-passes : (g : Given) (s : List ℕ) (w : ℕ) → Holds g 1 s → 1 ≤ w → w ≤ given-reach g → extendVerdict s w ≡ Pass
 unfolding extendVerdict judge
 extend-passes g s w h low high =
-    simp (sound-test s .1 (h .sound), le-ltb w 1 low, le-ltb (width s) w (omega (arith, h .same-width)), le-ltb w (terms s) (omega (arith, h .same-terms)))
+    simp (sound-test s .1 (h .sound), le-ltb w 1 low, le-ltb (reach s) w (omega (arith, holds-reach g 1 s h)), le-ltb w (terms s) (omega (arith, h .same-terms)))
 
 -- after open: its refusal, or else extend to N
-module _ (g : Given) (old mid : List ℕ) (a : Outcome ℕ) (room : length old ≡ sheetRoom) (o : Opened g old a mid) where
+module _ (g : Given) (whole : given-reach g ≡ g .N) (old mid : List ℕ) (a : Outcome ℕ) (room : length old ≡ sheetRoom) (o : Opened g old a mid) where
   answered : a ≡ result (openVerdict g sheetRoom) (needed g)
   answered = subst (λ (n : ℕ). a ≡ result (openVerdict g n) (needed g)) room (o .answers)
 
@@ -279,6 +287,20 @@ module _ (g : Given) (old mid : List ℕ) (a : Outcome ℕ) (room : length old �
   wrote-listed T w b new is e x f =
       record { text = listingText new; is = text-listed (openVerdict g sheetRoom) g new (passed T is) (holds-all T w b new is e x); puts = f }
 
+-- one word, over and over, in the first d words of an array
+module _ (d n : ℕ) (zeros new : List ℕ) (fits : d ≤ length zeros) (is : new ≡ tabulate (length (take d zeros)) (λ _. n)) where
+  repeated : new ≡ tabulate d (λ _. n)
+  repeated = is ∙ ap (λ (k : ℕ). tabulate k (λ _. n)) (length-take-le d zeros fits)
+
+  repeated-long : length new ≡ d
+  repeated-long = ap length repeated ∙ length-tabulate d (λ _. n)
+
+  pub repeated-fits : d ≤ length (new ++ drop d zeros)
+  repeated-fits = omega (arith, length-append new (drop d zeros), repeated-long)
+
+  pub repeated-first : take d (new ++ drop d zeros) ≡ tabulate d (λ _. n)
+  repeated-first = take-at new (drop d zeros) d repeated-long ∙ repeated
+
 -- the words of a job, where they were loaded into the first m words of an array
 pub loaded-first : (b : List ℕ) (from o m k : ℕ) (zeros new : List ℕ) → m ≤ length zeros → from ≡ o → m ≡ k → new ≡ fields b from (length (take m zeros))
     → take m (new ++ drop m zeros) ≡ fields b o k
@@ -301,28 +323,20 @@ load-fits b f from m end zeros is h e few long =
     (is, omega arith, omega (arith, place-mono b (from + length (take m zeros)) end (omega arith)))
 
 -- what a job gives, word by word
-abbrev to : (p D N : ℕ) (rows roots : List ℕ) → Given
-to p D N rows roots = givenOf p D N rows roots
+module _ (b : List ℕ) (p D N : ℕ) (rows roots : List ℕ) (ep : p ≡ jobModulus b) (ed : D ≡ jobDegree b) (en : N ≡ jobWidth b)
+    (erows : rows ≡ fields b (headFields + jobCount b) ((jobDegree b + 1) * jobWidth b)) (eroots : roots ≡ fields b headFields (jobCount b)) where
+  given-same : wholeOf p D N rows roots ≡ jobGiven b
+  unfolding jobGiven
+  given-same =
+      let A = fields b (headFields + jobCount b) ((jobDegree b + 1) * jobWidth b) in
+      ap (λ (x : ℕ). wholeOf x D N rows roots) ep ∙ ap (λ (x : ℕ). wholeOf (jobModulus b) x N rows roots) ed ∙ ap (λ (x : ℕ). wholeOf (jobModulus b) (jobDegree b) x rows roots) en
+      ∙ ap (λ (x : List ℕ). wholeOf (jobModulus b) (jobDegree b) (jobWidth b) x roots) erows ∙ ap (λ (x : List ℕ). wholeOf (jobModulus b) (jobDegree b) (jobWidth b) A x) eroots
 
-given-same : (b : List ℕ) (g : Given) → g .p ≡ jobModulus b → g .D ≡ jobDegree b → g .N ≡ jobWidth b → g .rows ≡ fields b (headFields + jobCount b) ((jobDegree b + 1) * jobWidth b)
-    → g .roots ≡ fields b headFields (jobCount b) → g ≡ jobGiven b
-unfolding jobGiven
-given-same b g p d n rows roots =
-    let A = fields b (headFields + jobCount b) ((jobDegree b + 1) * jobWidth b) in
-    let s₀ : g ≡ givenOf (jobModulus b) (g .D) (g .N) (g .rows) (g .roots) = ap (λ (x : ℕ). to x (g .D) (g .N) (g .rows) (g .roots)) p in
-    let s₁ = ap (λ (x : ℕ). to (jobModulus b) x (g .N) (g .rows) (g .roots)) d in
-    let s₂ = ap (λ (x : ℕ). to (jobModulus b) (jobDegree b) x (g .rows) (g .roots)) n in
-    let s₃ = ap (λ (x : List ℕ). to (jobModulus b) (jobDegree b) (jobWidth b) x (g .roots)) rows in
-    let s₄ = ap (λ (x : List ℕ). to (jobModulus b) (jobDegree b) (jobWidth b) A x) roots in
-    s₀ ∙ s₁ ∙ s₂ ∙ s₃ ∙ s₄
-
--- after a job's own checks, the text is that of open's verdict
-pub wrote-job : (b : List ℕ) (g : Given) {out new : List ℕ} {at : ℕ} → judge (jobChecks b) ≡ Pass → g .p ≡ jobModulus b → g .D ≡ jobDegree b → g .N ≡ jobWidth b
-    → g .rows ≡ fields b (headFields + jobCount b) ((jobDegree b + 1) * jobWidth b) → g .roots ≡ fields b headFields (jobCount b) → WroteGiven g out at new
-    → Wrote (listVerdict b) (jobGiven b) out at new
-wrote-job b g {out} {new} {at} e p d n rows roots w =
-    let s = subst (λ (x : Given). WroteGiven x out at new) (given-same b g p d n rows roots) w in
-    subst (λ (v : Verdict). Wrote v (jobGiven b) out at new) (sym (list-verdict b sheetRoom e refl)) s
+  -- after a job's own checks, the text is that of open's verdict
+  pub wrote-job : {out new : List ℕ} {at : ℕ} → judge (jobChecks b) ≡ Pass → WroteGiven (wholeOf p D N rows roots) out at new → Wrote (listVerdict b) (jobGiven b) out at new
+  wrote-job {out} {new} {at} e w =
+      let s = subst (λ (x : Given). WroteGiven x out at new) given-same w in
+      subst (λ (v : Verdict). Wrote v (jobGiven b) out at new) (sym (list-verdict b sheetRoom e refl)) s
 
 -- the text of a job that its own checks refuse
 pub wrote-early : (b : List ℕ) (r : Refusal) {out new : List ℕ} {at : ℕ} → judge (jobChecks b) ≡ Refuse r → Puts refusalRoom (refusedText (r .number) (r .detail)) 0 out at new

@@ -1,5 +1,5 @@
 -- What listing a job answers and leaves.
---   jobGiven b             what open is given of the job file b
+--   jobGiven b             what open is given of the job file b: its rows are all known to N
 --   listVerdict b          all the checks of a job, in their order: its own, and then open's
 --   TextOf v g text        under the verdict v, the line of the refusal, or the listing of the sheet that holds what is given, with N terms
 --   IsListing job text     the text that the job comes to
@@ -17,7 +17,7 @@ use Rattle.numbers.specs.Refusals.{check, judge, Outcome, result, written}
 use Rattle.numbers.specs.declared.refusal.Refusal.{Refusal}
 use Rattle.numbers.specs.declared.refusal.Verdict.{Verdict}
 use Rattle.numbers.specs.declared.refusal.Verdict.the-variants.{Pass, Refuse}
-use Rattle.sheet.specs.Sheet.{Given, givenOf, Holds}
+use Rattle.sheet.specs.Sheet.{Given, wholeOf, Holds}
 use Rattle.open.specs.Open.{needed, openChecks}
 use Rattle.job.specs.Limits.{headFields}
 use Rattle.job.specs.Job.{fields, jobModulus, jobDegree, jobWidth, jobCount, jobChecks}
@@ -25,7 +25,7 @@ use Rattle.text.specs.Limits.{textRoom}
 use Rattle.text.specs.Text.{listingText, refusedText}
 
 unfoldable pub jobGiven : List ℕ → Given
-jobGiven b = givenOf (jobModulus b) (jobDegree b) (jobWidth b)
+jobGiven b = wholeOf (jobModulus b) (jobDegree b) (jobWidth b)
     (fields b (headFields + jobCount b) ((jobDegree b + 1) * jobWidth b))
     (fields b headFields (jobCount b))
 

@@ -7,13 +7,15 @@ use job::limits::ROWS_ROOM;
 use numbers::refusal::Answer;
 use numbers::refusal::Verdict;
 use numbers::refusal::refused;
+use series::kernel::repeat;
 ghost use mathlib.Core.Path.{_≡_};
 ghost use Prim.Native.Nat.{_≤_};
 ghost use lib.ListN.{length};
 ghost use Rattle.numbers.specs.Words.{over};
 ghost use Rattle.numbers.specs.Refusals.{judge, outcome, result, written};
 ghost use Rattle.numbers.specs.declared.refusal.Verdict.the-variants.{Pass};
-ghost use Rattle.sheet.specs.Sheet.{givenOf};
+ghost use Rattle.sheet.specs.Sheet.{wholeOf};
+ghost use Rattle.open.specs.Open.{Opened};
 ghost use Rattle.job.specs.Limits.{mostDegree, mostWidth};
 ghost use Rattle.job.specs.Job.{jobChecks};
 ghost use Rattle.text.specs.Limits.{textRoom};
@@ -22,13 +24,24 @@ ghost use Rattle.listing.specs.Listing.{jobGiven, listVerdict, roomVerdi
 
 pub mod limits; // how large the sheet and the text of a job are
 
+// The sheet of a job, whose rows are all known to N.
+fn open_known(p: u32, d: u32, n: u32, rows: &[u32], roots: &[u32], sheet: &mut [u32]) -> Answer
+    requires { ⌜ d ≤ mostDegree ⌝ }
+    ensures { λ r. ⌜ Opened (wholeOf p d n (now (rows .entry)) (now (roots .entry))) (now (sheet .entry)) (outcome r) (now (sheet .exit)) ⌝ }
+{
+    let size = d as usize;
+    let mut lengths = [0u32; ROOTS_ROOM];
+    repeat(n, &mut lengths[..size]);
+    open::open(p, d, n, rows, &lengths[..size], roots, sheet)
+}
+
 // The text of what open is given.
 fn write_given(p: u32, d: u32, n: u32, rows: &[u32], roots: &[u32], out: &mut [u8]) -> usize
     requires { ⌜ (d ≤ mostDegree) × (n ≤ mostWidth) × (textRoom ≤ length (now out)) ⌝ }
-    ensures { λ r. ⌜ WroteGiven (givenOf p d n (now (rows .entry)) (now (roots .entry))) (now (out .entry)) r (now (out .exit)) ⌝ }
+    ensures { λ r. ⌜ WroteGiven (wholeOf p d n (now (rows .entry)) (now (roots .entry))) (now (out .entry)) r (now (out .exit)) ⌝ }
 {
     let mut sheet = [0u32; SHEET_ROOM];
-    if let Answer::Refused(r) = open::open(p, d, n, rows, roots, &mut sheet) {
+    if let Answer::Refused(r) = open_known(p, d, n, rows, roots, &mut sheet) {
         return text::put_refusal(r.number, r.detail, out);
     }
     extend::extend(&mut sheet, n);

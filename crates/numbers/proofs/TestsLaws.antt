@@ -73,11 +73,15 @@ lower n k p f = (
   λ h. at-allTo n _ (λ j l. at-allTo k _ (λ t g. lt-ltb _ _ (h j l t g))),
 )
 
-pub past : (n k m : ℕ) (f : ℕ → ℕ → ℕ) → (allTo n (λ j. allTo (m - k) (λ t. eqb (f j (k + t)) 0)) ≡ true) ↔ ((j : ℕ) → j < n → (t : ℕ) → k ≤ t → t < m → f j t ≡ 0)
-past n k m f = (
-  λ e j l t h g. subst (λ x. f j x ≡ 0) (add-sub-of-le h) (square n (m - k) (λ j t. f j (k + t)) (λ j t. 0) .0 e j l (t - k) (omega arith)),
-  λ h. square n (m - k) (λ j t. f j (k + t)) (λ j t. 0) .1 (λ j l t g. h j l (k + t) (omega arith) (omega arith)),
+-- one row
+pub past-row : (k m : ℕ) (f : ℕ → ℕ) → (allTo (m - k) (λ t. eqb (f (k + t)) 0) ≡ true) ↔ ((t : ℕ) → k ≤ t → t < m → f t ≡ 0)
+past-row k m f = (
+  λ e t h g. subst (λ x. f x ≡ 0) (add-sub-of-le h) (eqs (m - k) (λ t. f (k + t)) (λ t. 0) .0 e (t - k) (omega arith)),
+  λ h. eqs (m - k) (λ t. f (k + t)) (λ t. 0) .1 (λ t g. h (k + t) (omega arith) (omega arith)),
 )
+
+pub past : (n k m : ℕ) (f : ℕ → ℕ → ℕ) → (allTo n (λ j. allTo (m - k) (λ t. eqb (f j (k + t)) 0)) ≡ true) ↔ ((j : ℕ) → j < n → (t : ℕ) → k ≤ t → t < m → f j t ≡ 0)
+past n k m f = (λ e j l. past-row k m (f j) .0 (allTo-at n _ e j l), λ h. at-allTo n _ (λ j l. past-row k m (f j) .1 (h j l)))
 
 pub allTo-ext : (n : ℕ) (f g : ℕ → Bool) → ((i : ℕ) → i < n → f i ≡ g i) → allTo n f ≡ allTo n g
 unfolding allTo

@@ -1,19 +1,19 @@
 -- Laws of the definitions of `specs/Words`: what a search finds, and lists that a loop fills word by word.
 -- Assumes nothing.
-use mathlib.Core.Path.{_≡_, refl, sym, ap, subst, _∙_}
+use mathlib.Core.Path.{_≡_, refl, sym, ap, ap₂, subst, _∙_}
 use mathlib.Core.Bool.{Bool, true, false, not}
 use mathlib.Core.Logic.{⊎-elim, _⊎_, inl, inr}
 use mathlib.Core.List.{List, [], _∷_, _++_, append-assoc, append-nil}
-use Prim.Native.Nat.{ℕ, zero, suc, _+_, _-_, _≤_, _<_, zero-le}
-use native.Mathlib.Nat.{le-of-suc-le-suc, eq-or-lt-of-le, le-refl}
+use Prim.Native.Nat.{ℕ, zero, suc, _+_, _-_, _≤_, _<_, zero-le, min}
+use native.Mathlib.Nat.{le-of-suc-le-suc, eq-or-lt-of-le, le-refl, add-zero, add-suc}
 use native.Mathlib.Decide.{decLt}
 use native.Mathlib.Numerals.{add-one}
 use native.Mathlib.Omega.{arith}
-use borrow.Author.Tests.{le-leb, lt-leb, leb-false, leb-true, ne-eqb, eqb-false, eqb-true, not-true, not-false}
+use borrow.Author.Tests.{le-leb, lt-leb, leb-false, leb-true, lt-ltb, le-ltb, ne-eqb, eqb-false, eqb-true, not-true, not-false}
 use lib.Dec.{leb, eqb}
 use lib.ListN.{length, take, drop, set, List·getD-append, length-set, length-append, length-drop}
-use lib.Seq.{set-at, drop-cons, take-at, drop-at, drop-drop, drop-length, take-all, getD-at, getD-drop, getD-append-add}
-use Rattle.numbers.specs.Words.{word, choose, firstWhere, firstNonzero, firstLarge, tabulate, over}
+use lib.Seq.{set-at, drop-cons, take-at, drop-at, drop-drop, drop-length, take-all, getD-at, getD-take, getD-drop, getD-append-add, length-take-le}
+use Rattle.numbers.specs.Words.{word, choose, firstWhere, firstNonzero, firstLarge, tabulate, over, part, upTo, least}
 use Rattle.numbers.specs.internal.Facts.{AllBelow}
 
 pub lt-or-ge : (a b : ℕ) → (a < b) ⊎ (b ≤ a)
@@ -183,6 +183,12 @@ pub tabulate-suc : (n : ℕ) (f : ℕ → ℕ) → tabulate (n + 1) f ≡ tabula
 unfolding tabulate
 tabulate-suc n f = rw add-one
 
+pub tabulate-append : (k m : ℕ) (f : ℕ → ℕ) → tabulate (k + m) f ≡ tabulate k f ++ tabulate m (λ t. f (k + t))
+unfolding tabulate
+tabulate-append k zero f = ap (λ (n : ℕ). tabulate n f) (add-zero k) ∙ sym (append-nil (tabulate k f))
+tabulate-append k (suc m) f =
+    ap (λ (n : ℕ). tabulate n f) (add-suc k m) ∙ ap (λ s. s ++ (f (k + m) ∷ [])) (tabulate-append k m f) ∙ append-assoc (tabulate k f) (tabulate m (λ t. f (k + t))) (f (k + m) ∷ [])
+
 pub length-over : (xs s : List ℕ) → length xs ≤ length s → length (over xs s) ≡ length s
 length-over xs s h = simp (length-append, length-drop) (omega arith)
 
@@ -249,6 +255,10 @@ from s a = take (length s - a) (drop a s)
 pub from-is : (s : List ℕ) (a : ℕ) → from s a ≡ drop a s
 from-is s a = take-all (length s - a) (drop a s) (simp length-drop (omega arith))
 
+-- a word of a part
+pub word-part : (s : List ℕ) (a n i : ℕ) → i < n → word (part s a n) i ≡ word s (a + i)
+word-part s a n i h = getD-take n (drop a s) i 0 h ∙ getD-drop a s i 0
+
 pub length-from : (s : List ℕ) (a : ℕ) → length (from s a) ≡ length s - a
 length-from s a = ap length (from-is s a) ∙ length-drop a s
 
@@ -257,6 +267,9 @@ word-from s a k = ap (λ (l : List ℕ). word l k) (from-is s a) ∙ getD-drop a
 
 pub drop-below : (p n : ℕ) (s : List ℕ) → AllBelow p s → AllBelow p (drop n s)
 drop-below p n s b k l = rw (getD-drop n s k 0) (b (n + k) (omega (arith, length-drop n s)))
+
+pub take-below : (p n : ℕ) (s : List ℕ) → n ≤ length s → AllBelow p s → AllBelow p (take n s)
+take-below p n s g h k l = let e = length-take-le n s g in rw (getD-take n s k 0 (omega arith)) (h k (omega arith))
 
 pub from-below : (p : ℕ) (s : List ℕ) (a : ℕ) → AllBelow p s → AllBelow p (from s a)
 from-below p s a b = subst (AllBelow p) (sym (from-is s a)) (drop-below p a s b)
@@ -270,3 +283,59 @@ pub large-there : (p : ℕ) (s : List ℕ) → firstLarge p s < length s → p �
 unfolding firstLarge
 large-there p [] h = absurd (let z : ⊥ = omega arith in z)
 large-there p (x ∷ xs) h = head-large p x (length xs) (firstLarge p xs) xs (leb p x) refl (large-there p xs) h
+
+-- below k a function is itself, and from there on 0
+pub up-low : (k : ℕ) (f : ℕ → ℕ) (t : ℕ) → t < k → upTo k f t ≡ f t
+up-low k f t l = rw (lt-ltb t k l)
+
+pub up-high : (k : ℕ) (f : ℕ → ℕ) (t : ℕ) → k ≤ t → upTo k f t ≡ 0
+up-high k f t l = rw (le-ltb t k l)
+
+pub up-ext : (k : ℕ) (f g : ℕ → ℕ) → ((t : ℕ) → t < k → f t ≡ g t) → (t : ℕ) → upTo k f t ≡ upTo k g t
+up-ext k f g h t =
+    ⊎-elim (λ (l : t < k). up-low k f t l ∙ h t l ∙ sym (up-low k g t l)) (λ (l : k ≤ t). up-high k f t l ∙ sym (up-high k g t l)) (lt-or-ge t k)
+
+-- so its first n words are its own where n ≤ k, and k of them and zeros where k ≤ n
+pub tabulate-whole : (n k : ℕ) (f : ℕ → ℕ) → n ≤ k → tabulate n (upTo k f) ≡ tabulate n f
+tabulate-whole n k f h = tabulate-ext n (upTo k f) f (λ t l. up-low k f t (omega arith))
+
+pub tabulate-cut : (n k : ℕ) (f : ℕ → ℕ) → k ≤ n → tabulate n (upTo k f) ≡ tabulate k f ++ tabulate (n - k) (λ _. 0)
+tabulate-cut n k f h =
+    ap (λ (m : ℕ). tabulate m (upTo k f)) (let e : n ≡ k + (n - k) = omega arith in e) ∙ tabulate-append k (n - k) (upTo k f)
+    ∙ ap₂ _++_ (tabulate-whole k k f (le-refl k)) (tabulate-ext (n - k) (λ t. upTo k f (k + t)) (λ _. 0) (λ t l. up-high k f (k + t) (omega arith)))
+
+-- the least of N and n numbers: it is below all, and is N or one of them
+module _ (N : ℕ) (f : ℕ → ℕ) where
+  pub least-le : (n : ℕ) → least N n f ≤ N
+  unfolding least
+  least-le zero = omega arith
+  least-le (suc n) = let z = least-le n in omega arith
+
+  pub least-at : (n i : ℕ) → i < n → least N n f ≤ f i
+  unfolding least
+  least-at zero i l = omega arith
+  least-at (suc n) i l =
+      ⊎-elim (λ (e : i ≡ n). rw e (omega arith)) (λ (u : i < n). let z = least-at n i u in omega arith) (eq-or-lt-of-le (le-of-suc-le-suc l))
+
+  pub least-from : (m n : ℕ) → m ≤ N → ((i : ℕ) → i < n → m ≤ f i) → m ≤ least N n f
+  unfolding least
+  least-from m zero u h = u
+  least-from m (suc n) u h = let z = least-from m n u (λ i l. h i (omega arith)) in let y = h n (omega arith) in omega arith
+
+  pub least-there : (n : ℕ) → least N n f < N → (i : ℕ) × (i < n) × (f i ≡ least N n f)
+  unfolding least
+  least-there zero l = absurd (let z : ⊥ = omega arith in z)
+  least-there (suc n) l =
+      ⊎-elim
+      (λ (u : least N n f < f n). let z = least-there n (omega arith) in (z .0, omega (arith, z .1), z .2 ∙ (let e : least N n f ≡ min (least N n f) (f n) = omega arith in e)))
+      (λ (u : f n ≤ least N n f). (n, omega arith, omega arith))
+      (lt-or-ge (least N n f) (f n))
+
+pub least-next : (N n : ℕ) (f : ℕ → ℕ) → least N (n + 1) f ≡ min (least N n f) (f n)
+unfolding least
+least-next N n f = rw add-one
+
+pub least-ext : (N n : ℕ) (f g : ℕ → ℕ) → ((i : ℕ) → i < n → f i ≡ g i) → least N n f ≡ least N n g
+unfolding least
+least-ext N zero f g h = refl
+least-ext N (suc n) f g h = rw (least-ext N n f g (λ i l. h i (omega arith)), h n (omega arith))

@@ -11,8 +11,10 @@
 --   tabulate n f         the words f 0, f 1, .., f (n − 1)
 --   over xs s            s with the words xs in place of its first ones
 --   part s a n           the n words of s from word a on
+--   upTo k f t           f t, and 0 from k on
+--   least N n f          the least of N and f 0, f 1, .., f (n − 1)
 -- Assumes nothing.
-use Prim.Native.Nat.{ℕ, zero, suc, _%_}
+use Prim.Native.Nat.{ℕ, zero, suc, _%_, min}
 use mathlib.Core.Bool.{Bool, true, false, not, _||_}
 use mathlib.Core.List.{List, [], _∷_, _++_}
 use lib.Dec.{leb, ltb, eqb}
@@ -59,3 +61,10 @@ over xs s = xs ++ drop (length xs) s
 
 abbrev pub part : List ℕ → ℕ → ℕ → List ℕ
 part s a n = take n (drop a s)
+
+abbrev pub upTo : ℕ → (ℕ → ℕ) → ℕ → ℕ
+upTo k f t = choose (ltb t k) (f t) 0
+
+unfoldable pub least : ℕ → ℕ → (ℕ → ℕ) → ℕ
+least N zero f = N
+least N (suc n) f = min (least N n f) (f n)

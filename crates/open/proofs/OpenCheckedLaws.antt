@@ -1,5 +1,5 @@
--- What all ten checks of open answer, by what each stage found.
---   checked-refused   refusals 1 to 8 refuse
+-- What all checks of open answer, by what each stage found.
+--   checked-refused   refusals 1 to 8, or 21, refuse
 --   checked-none      no powers: refusal 9
 --   checked-short     powers, and too few words: refusal 10
 --   checked-done      powers, and words enough

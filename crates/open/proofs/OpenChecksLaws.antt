@@ -1,11 +1,13 @@
 -- The checks of open: their parts, and what each part that passes says.
 --   open-rows-split        the checks of open are the three parts, one after the other
---   longCheck, wordsCheck, topTest, rootsCheck   refusals 5, 6, 7 and 8, by name
+--   longCheck, wordsCheck, knownCheck, topTest, rootsCheck   refusals 5, 6, 21, 7 and 8, by name
 --   unit-fails, unit-passes, rising-fails, rising-passes   what the two loops find
 --   large-rows, large-roots, large-none   refusal 6, by the first large words
---   PolynomialPass, polynomial-pass   what checks 1 to 6 let pass
+--   PolynomialPass, polynomial-pass, polynomial-passes   what checks 1 to 6 let pass, and that they do
 --   row-test               row D of the polynomial is the part of the rows that the loop looks at
---   ListPass, list-pass    what checks 1 to 8 let pass
+--   known-first            21 comes before 7 and 8
+--   ListPass, list-pass, list-passes   what checks 1 to 8, and 21, let pass, and that they do
+--   whole-list             and so they do with other rows, all of them known, if the top row is right and all are below p
 -- Assumes nothing.
 use Prim.Native.Nat.{ℕ, zero, suc, _+_, _-_, _*_, _≤_, _<_}
 use native.Mathlib.Nat.{eq-or-lt-of-le, mod-eq-of-lt}
@@ -14,30 +16,37 @@ use mathlib.Core.Path.{_≡_, refl, sym, _∙_, ap, subst}
 use mathlib.Core.Logic.{_≢_, ⊎-elim}
 use mathlib.Core.Bool.{Bool, true, false, not, _||_}
 use mathlib.Core.List.{List, [], _∷_, _++_}
-use borrow.Author.Tests.{lt-ltb, le-ltb, ne-eqb, not-false, eqb-true, ltb-true}
+use borrow.Author.Tests.{lt-ltb, le-ltb, eq-eqb, ne-eqb, not-false, eqb-true, ltb-true}
 use lib.Dec.{ltb, eqb}
 use lib.ListN.{length, take, drop, length-append}
 use lib.Seq.{getD-take, getD-drop}
-use Rattle.numbers.specs.Words.{word, allTo, firstLarge, outside, lowWord}
+use Rattle.numbers.specs.Words.{word, allTo, all, firstLarge, outside, lowWord}
 use Rattle.numbers.specs.internal.Facts.{AllBelow}
 use Rattle.numbers.specs.Refusals.{Check, check, judge, refusal, modulusChecks, unreduced, widthCheck}
 use Rattle.numbers.specs.declared.refusal.Verdict.the-variants.{Pass, Refuse}
-use Rattle.numbers.proofs.WordsLaws.{below-append, large-first, large-second, large-le}
+use Rattle.numbers.proofs.WordsLaws.{length-tabulate, word-tabulate, below-append, large-first, large-second, large-le}
 use Rattle.numbers.proofs.TestsLaws.{eqs, allTo-at, allTo-false, at-allTo, allTo-ext}
-use Rattle.numbers.proofs.RefusalsLaws.{Modulus, modulus-pass, pass-parts, pass-check, take-check, skip-check, none-judged, neither, reduced, inside}
+use Rattle.numbers.proofs.RefusalsLaws.{Modulus, modulus-pass, modulus-fine, after-pass, pass-parts, pass-check, take-check, skip-check, none-judged, neither, reduced, below-reduced, inside, within}
 use Rattle.numbers.specs.Limits.{largestModulus, largestDegree, largestWidth}
+use Rattle.series.specs.Known.{KnownTo, knownTo, rowsKnown, unknownCheck}
+use Rattle.series.proofs.KnownLaws.{rows-known-test}
 use Rattle.rows.proofs.RowsLaws.{length-part, row-fits}
 use Rattle.rows.specs.Rows.{unit}
-use Rattle.sheet.specs.Sheet.{Given, given-polynomial}
+use Rattle.columns.proofs.ColumnLaws.{append-below}
+use Rattle.layout.specs.Layout.{rowsAt}
+use Rattle.sheet.specs.Sheet.{Given, givenOf, wholeOf, given-polynomial}
 use Rattle.open.specs.Open.{openVerdict, rising, sizeChecks, polynomialChecks, listChecks, splitChecks}
 use Rattle.open.specs.internal.Opening.{isUnit}
 
--- the rows that only open has: 5, 6, 7 and 8
+-- the rows that only open has: 5, 6, 21, 7 and 8
 abbrev pub longCheck : Given → Check
-longCheck g = check 5 (not (eqb (length (g .rows)) ((g .D + 1) * g .N))) 0
+longCheck g = check 5 (not (eqb (length (g .rows)) ((g .D + 1) * g .N)) || not (eqb (length (g .lengths)) (g .D))) 0
 
 abbrev pub wordsCheck : Given → Check
 wordsCheck g = check 6 (unreduced (g .p) (g .rows ++ g .roots)) (lowWord (firstLarge (g .p) (g .rows ++ g .roots)))
+
+abbrev pub knownCheck : Given → Check
+knownCheck g = unknownCheck (rowsKnown (g .N) (g .D) (word (g .lengths)) (given-polynomial g))
 
 abbrev pub topTest : Given → Bool
 topTest g = allTo (g .N) (λ t. eqb (given-polynomial g (g .D) t) (unit t))
@@ -98,6 +107,7 @@ pub record PolynomialPass (g : Given) : Type 0 where
   pub width-low : 1 ≤ g .N
   pub width-high : g .N ≤ largestWidth
   pub long : length (g .rows) ≡ (g .D + 1) * g .N
+  pub lengths-long : length (g .lengths) ≡ g .D
   pub rows-below : AllBelow (g .p) (g .rows)
   pub roots-below : AllBelow (g .p) (g .roots)
 
@@ -109,6 +119,7 @@ polynomial-pass g pass =
     let c₄ = pass-check (widthCheck (g .N)) _ (c₃ .1) in
     let n = inside 1 largestWidth (g .N) (c₄ .0) in
     let c₅ = pass-check (longCheck g) _ (c₄ .1) in
+    let l = neither (not (eqb (length (g .rows)) ((g .D + 1) * g .N))) (not (eqb (length (g .lengths)) (g .D))) (c₅ .0) in
     let c₆ = pass-check (wordsCheck g) _ (c₅ .1) in
     let low = below-append (g .p) (g .rows) (g .roots) (reduced (g .p) (g .rows ++ g .roots) (c₆ .0)) in
     record {
@@ -118,10 +129,20 @@ polynomial-pass g pass =
       degree-high = d .1;
       width-low = n .0;
       width-high = n .1;
-      long = eqb-true _ _ (not-false _ (c₅ .0));
+      long = eqb-true _ _ (not-false _ (l .0));
+      lengths-long = eqb-true _ _ (not-false _ (l .1));
       rows-below = low .0;
       roots-below = low .1;
     }
+
+pub polynomial-passes : (g : Given) → PolynomialPass g → judge (polynomialChecks g) ≡ Pass
+polynomial-passes g h =
+    after-pass (modulusChecks (g .p)) (sizeChecks g) (modulus-fine (g .p) (h .modulus .prime) (h .small))
+    ∙ skip-check (check 3 (outside 1 largestDegree (g .D)) 0) _ (within 1 largestDegree (g .D) (h .degree-low) (h .degree-high))
+    ∙ skip-check (widthCheck (g .N)) _ (within 1 largestWidth (g .N) (h .width-low) (h .width-high))
+    ∙ skip-check (longCheck g) _ (rw (eq-eqb _ _ (h .long), eq-eqb _ _ (h .lengths-long)) refl)
+    ∙ skip-check (wordsCheck g) [] (below-reduced (g .p) (g .rows ++ g .roots) (append-below (g .p) (g .rows) (g .roots) (h .rows-below) (h .roots-below)))
+    ∙ none-judged
 
 zero-plus : (n : ℕ) → 0 + n ≡ n
 zero-plus n = omega arith
@@ -147,9 +168,15 @@ one-first s e (suc k) l = absurd (let z : ⊥ = omega arith in z)
 pub rising-more : (s : List ℕ) (i : ℕ) → 1 ≤ i → ((k : ℕ) → suc k < i → word s k < word s (suc k)) → word s (i - 1) < word s i → (k : ℕ) → suc k < i + 1 → word s k < word s (suc k)
 rising-more s i low h last k l = ⊎-elim (λ (e : suc k ≡ i). subst (λ n. word s n < word s (suc k)) (let z : suc k - 1 ≡ k = omega arith in z) (subst (λ n. word s (n - 1) < word s n) (sym e) last)) (λ g. h k g) (eq-or-lt-of-le (let z : suc k ≤ i = omega arith in z))
 
--- what checks 1 to 8 let pass
+-- Y^1 with a top row of 0, a known length of 0 and no root
+known-first : judge (listChecks (givenOf 2 1 1 (0 ∷ 0 ∷ []) (0 ∷ []) [])) ≡ Refuse (refusal 21 0)
+unfolding judge rowsKnown knownTo allTo all
+known-first = refl
+
+-- what checks 1 to 8, and 21, let pass
 pub record ListPass (g : Given) : Type 0 where
   pub polynomial : PolynomialPass g
+  pub lengths : (j : ℕ) → j < g .D → KnownTo (g .N) (word (g .lengths) j) (given-polynomial g j)
   pub top : (t : ℕ) → t < g .N → given-polynomial g (g .D) t ≡ unit t
   pub count-low : 1 ≤ length (g .roots)
   pub count-high : length (g .roots) ≤ g .D
@@ -158,17 +185,50 @@ pub record ListPass (g : Given) : Type 0 where
 pub list-pass : (g : Given) → judge (polynomialChecks g ++ listChecks g) ≡ Pass → ListPass g
 list-pass g pass =
     let m = pass-parts (polynomialChecks g) (listChecks g) pass in
-    let c₇ = pass-check (check 7 (not (topTest g)) 0) _ (m .1) in
+    let k = pass-check (knownCheck g) _ (m .1) in
+    let c₇ = pass-check (check 7 (not (topTest g)) 0) _ (k .1) in
     let c₈ = pass-check (rootsCheck g) [] (c₇ .1) in
     let n = neither (outside 1 (g .D) (length (g .roots))) (not (rising (g .roots))) (c₈ .0) in
     let r = inside 1 (g .D) (length (g .roots)) (n .0) in
     record {
       polynomial = polynomial-pass g (m .0);
+      lengths = rows-known-test (g .N) (g .D) (word (g .lengths)) (given-polynomial g) .0 (not-false _ (k .0));
       top = eqs (g .N) _ _ .0 (not-false (topTest g) (c₇ .0));
       count-low = r .0;
       count-high = r .1;
       up = λ i u. ltb-true _ _ (allTo-at (length (g .roots) - 1) (λ i. ltb (word (g .roots) i) (word (g .roots) (suc i))) (not-false (rising (g .roots)) (n .1)) i (omega arith));
     }
+
+pub list-passes : (g : Given) → ListPass g → judge (polynomialChecks g ++ listChecks g) ≡ Pass
+list-passes g h =
+    after-pass (polynomialChecks g) (listChecks g) (polynomial-passes g (h .polynomial))
+    ∙ skip-check (knownCheck g) _ (ap not (rows-known-test (g .N) (g .D) (word (g .lengths)) (given-polynomial g) .1 (h .lengths)))
+    ∙ skip-check (check 7 (not (topTest g)) 0) _ (ap not (eqs (g .N) _ _ .1 (h .top)))
+    ∙ skip-check (rootsCheck g) [] (rw (within 1 (g .D) (length (g .roots)) (h .count-low) (h .count-high)) (ap not (sym (rising-passes (g .roots) (length (g .roots)) (omega arith) (h .up)))))
+    ∙ none-judged
+
+pub whole-list : (g : Given) → ListPass g → (rows : List ℕ) → length rows ≡ (g .D + 1) * g .N → AllBelow (g .p) rows → ((t : ℕ) → t < g .N → rowsAt rows 0 (g .N) (g .D) t ≡ unit t)
+    → ListPass (wholeOf (g .p) (g .D) (g .N) rows (g .roots))
+whole-list g h rows long below top = record {
+  polynomial = record {
+    modulus = h .polynomial .modulus;
+    small = h .polynomial .small;
+    degree-low = h .polynomial .degree-low;
+    degree-high = h .polynomial .degree-high;
+    width-low = h .polynomial .width-low;
+    width-high = h .polynomial .width-high;
+    long = long;
+    lengths-long = length-tabulate (g .D) (λ _. g .N);
+    rows-below = below;
+    roots-below = h .polynomial .roots-below;
+  };
+  lengths = λ j l. subst (λ n. KnownTo (g .N) n (rowsAt rows 0 (g .N) j)) (sym (word-tabulate (g .D) (λ _. g .N) j l))
+      (record { low = h .polynomial .width-low; high = omega arith; rest = λ t u v. absurd (let z : ⊥ = omega arith in z) });
+  top = top;
+  count-low = h .count-low;
+  count-high = h .count-high;
+  up = h .up;
+}
 
 pub list-small : (g : Given) → ListPass g → (g .D ≤ largestDegree) × (g .N ≤ largestWidth) × (length (g .roots) ≤ largestDegree)
 list-small g h = let d = h .polynomial .degree-high in let r = h .count-high in (d, h .polynomial .width-high, omega arith)

@@ -51,13 +51,14 @@ module _ (g : Given) (old : List ℕ) (T : ℕ) (found : List ℕ) (a : Outcome 
   pub open-room : length found ≡ largestDegree
   open-room = h .long (passes .0)
 
-  pub write-ready : FreshReady g first × (length (g .rows) ≡ (g .D + 1) * g .N) × (length first ≡ length (g .roots)) × (T ≡ size (freshContent g first)) × (T ≤ length old)
+  pub write-ready : FreshReady g first × (length (g .rows) ≡ (g .D + 1) * g .N) × (length (g .lengths) ≡ g .D) × (length first ≡ length (g .roots)) × (T ≡ size (freshContent g first)) × (T ≤ length old)
   write-ready =
       let o = open-ready g (length old) (passes .0) in
       let t = passes .1 in
       let r = o .1 in (
         ready-fresh g first found-is (o .0),
         open-list .polynomial .long,
+        open-list .polynomial .lengths-long,
         found-count g first found-is,
         t ∙ needed-fresh g first,
         omega arith,

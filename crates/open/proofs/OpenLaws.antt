@@ -3,6 +3,7 @@
 --   powers-are      powersOf finds l exactly when l are powers of the listed roots that give f at X = 0
 --   powers-none     it finds none exactly when there are none
 --   found-count     it finds as many as there are roots
+--   powers-whole    how far the rows are known does not matter to it
 --   needed-is       T, as open answers it, is where every sheet that holds what open was given ends
 -- Assumes nothing.
 use Prim.Native.Nat.{ℕ, zero, suc, _+_, _-_, _≤_, _<_}
@@ -23,7 +24,7 @@ use Rattle.numbers.proofs.WordsLaws.{true-false}
 use Rattle.numbers.proofs.TestsLaws.{eqs}
 use Rattle.hensel.specs.Factors.{split}
 use Rattle.layout.specs.Layout.{end}
-use Rattle.sheet.specs.Sheet.{Given, given-polynomial, Holds}
+use Rattle.sheet.specs.Sheet.{Given, wholeOf, given-polynomial, Holds}
 use Rattle.open.specs.Open.{upwards, choices, find, splitsTest, powersOf, needed}
 use Rattle.sheet.proofs.SoundTestLaws.{upto, upto-back}
 use Rattle.sheet.specs.internal.Content.{Splits}
@@ -162,6 +163,10 @@ module _ (g : Given) where
         go : ((l : List ℕ) → length l ≡ length (g .roots) → GivenSplits g (word l) → ⊥) → (o : Option (List ℕ)) → powersOf g ≡ o → powersOf g ≡ none
         go h none q = q
         go h (some m) q = absurd (h m (found-count m q) (found-splits m up low q))
+
+pub powers-whole : (g : Given) → powersOf (wholeOf (g .p) (g .D) (g .N) (g .rows) (g .roots)) ≡ powersOf g
+unfolding powersOf splitsTest
+powers-whole g = refl
 
 pub needed-is : (g : Given) (k : ℕ) (s : List ℕ) → Holds g k s → needed g ≡ end s
 unfolding needed

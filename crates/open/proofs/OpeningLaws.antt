@@ -1,6 +1,7 @@
 -- What an accepted open was given, what it writes, and that there is a sheet of it for every k.
+--   Passed, open-passed   what the checks of open find
 --   open-ready      what the checks of open leave: all that open needs
---   sheet-exists    for what an accepted open was given there is exactly one sound sheet with k terms, for every k from 1 to N
+--   sheet-exists    for what an accepted open was given there is exactly one sound sheet with k terms, for every k from 1 to the least known length
 --   openWords g     what open writes: with one term factor i is (Y − c_i)^(m_i)
 --   open-done       open's conditions hold of these words over the old ones ..
 --   open-only       .. and of no others
@@ -21,7 +22,7 @@ use Rattle.numbers.specs.declared.refusal.Verdict.the-variants.{Pass}
 use Rattle.numbers.proofs.WordsLaws.{true-false, length-over}
 use Rattle.numbers.proofs.RefusalsLaws.{pass-parts, pass-check, reduced}
 use Rattle.layout.specs.Layout.{modulus, degree, width, terms, count}
-use Rattle.sheet.specs.Sheet.{Given, given-polynomial, Holds}
+use Rattle.sheet.specs.Sheet.{Given, given-reach, given-polynomial, Holds}
 use Rattle.open.specs.Open.{powersOf, isNone, needed, openVerdict, OpenDone, polynomialChecks, listChecks, splitChecks}
 use Rattle.layout.proofs.RegionsLaws.{in-rows}
 use Rattle.sheet.specs.internal.Content.{Content, size, sheetWords, built, start, Ready}
@@ -29,7 +30,7 @@ use Rattle.sheet.proofs.ContentLaws.{length-sheet}
 use Rattle.sheet.proofs.SheetsLaws.{Good, words-content, words-end, words-sound}
 use Rattle.sheet.proofs.UniqueLaws.{holds-unique}
 use Rattle.sheet.proofs.BuildLaws.{solved, solved-good, start-good}
-use Rattle.open.proofs.OpenChecksLaws.{list-pass, open-rows-split}
+use Rattle.open.proofs.OpenChecksLaws.{ListPass, list-pass, open-rows-split}
 use Rattle.open.proofs.OpenLaws.{powers-are, needed-is}
 
 some-of : (o : Option (List ℕ)) → isNone o ≡ false → (l : List ℕ) × (o ≡ some l)
@@ -45,15 +46,33 @@ abbrev pub powers : Given → ℕ → ℕ
 powers g = word (orNil (powersOf g))
 
 abbrev pub GivenReady : Given → Type 0
-GivenReady g = Ready (g .p) (g .D) (g .N) (length (g .roots)) (word (g .roots)) (powers g) (given-polynomial g)
+GivenReady g = Ready (g .p) (g .D) (g .N) (length (g .roots)) (word (g .lengths)) (word (g .roots)) (powers g) (given-polynomial g)
+
+-- what they find
+pub record Passed (g : Given) (room : ℕ) : Type 0 where
+  pub list : ListPass g
+  pub found : List ℕ
+  pub found-is : powersOf g ≡ some found
+  pub fits : needed g ≤ room
+
+pub open-passed : (g : Given) (room : ℕ) → openVerdict g room ≡ Pass → Passed g room
+open-passed g room pass =
+    let parts = pass-parts (polynomialChecks g ++ listChecks g) (splitChecks g room) (sym (open-rows-split g room) ∙ pass) in
+    let c₉ = pass-check (check 9 (isNone (powersOf g)) 0) _ (parts .1) in
+    let (l, e) = some-of (powersOf g) (c₉ .0) in
+    record {
+      list = list-pass g (parts .0);
+      found = l;
+      found-is = e;
+      fits = ltb-false room (needed g) (pass-check (check 10 (ltb room (needed g)) (needed g)) [] (c₉ .1) .0);
+    }
 
 pub open-ready : (g : Given) (room : ℕ) → openVerdict g room ≡ Pass → GivenReady g × (needed g ≤ room)
 open-ready g room pass =
-    let parts = pass-parts (polynomialChecks g ++ listChecks g) (splitChecks g room) (sym (open-rows-split g room) ∙ pass) in
-    let h = list-pass g (parts .0) in
+    let a = open-passed g room pass in
+    let h = a .list in
     let s = h .polynomial in
-    let c₉ = pass-check (check 9 (isNone (powersOf g)) 0) _ (parts .1) in
-    let (l, e) = some-of (powersOf g) (c₉ .0) in (
+    let e = a .found-is in (
       record {
         prime = s .modulus .prime;
         small = s .small;
@@ -63,17 +82,18 @@ open-ready g room pass =
         width-high = s .width-high;
         reduced = λ j u t v. s .rows-below (0 + j * g .N + t) (let n = s .long in omega (arith, in-rows (g .D + 1) (g .N) j t (omega arith) v));
         top = h .top;
-        splits = rw e (powers-are g (s .modulus .prime) (h .up) (s .roots-below) l .0 e .1);
+        lengths = h .lengths;
+        splits = rw e (powers-are g (s .modulus .prime) (h .up) (s .roots-below) (a .found) .0 e .1);
       },
-      ltb-false room (needed g) (pass-check (check 10 (ltb room (needed g)) (needed g)) [] (c₉ .1) .0),
+      a .fits,
     )
 
 -- a slice that begins with the words of good content built on what open was given
 holds-built : (g : Given) (k : ℕ) (a : ℕ → ℕ → ℕ → ℕ) (s : List ℕ)
-    → let c = built (g .p) (g .D) (g .N) k (length (g .roots)) (word (g .roots)) (powers g) (given-polynomial g) a in
+    → let c = built (g .p) (g .D) (g .N) k (length (g .roots)) (word (g .lengths)) (word (g .roots)) (powers g) (given-polynomial g) a in
     Good c → size c ≤ length s → ((i : ℕ) → i < size c → word s i ≡ word (sheetWords c) i) → Holds g k s
 holds-built g k a s good fits agree =
-    let c = built (g .p) (g .D) (g .N) k (length (g .roots)) (word (g .roots)) (powers g) (given-polynomial g) a in
+    let c = built (g .p) (g .D) (g .N) k (length (g .roots)) (word (g .lengths)) (word (g .roots)) (powers g) (given-polynomial g) a in
     let e = words-content s c agree in
     let eD = e .degree in let eN = e .width in let er = e .count in
     record {
@@ -81,6 +101,7 @@ holds-built g k a s good fits agree =
       same-modulus = sym (e .modulus);
       same-degree = sym eD;
       same-width = sym eN;
+      same-lengths = λ j l. sym (e .lengths j (omega arith));
       same-count = sym er;
       same-roots = λ i l. sym (e .roots i (omega arith));
       same-polynomial = λ j l t v. sym (e .polynomial j t (omega arith) (omega arith));
@@ -94,13 +115,13 @@ pub record OneSheet (g : Given) (k : ℕ) : Type 0 where
   pub long : length words ≡ needed g
   pub only : (s : List ℕ) → Holds g k s → take (needed g) s ≡ words
 
-pub sheet-exists : (g : Given) → GivenReady g → (k : ℕ) → 1 ≤ k → k ≤ g .N → OneSheet g k
+pub sheet-exists : (g : Given) → GivenReady g → (k : ℕ) → 1 ≤ k → k ≤ given-reach g → OneSheet g k
 unfolding needed solved
 sheet-exists g h k low high =
-    let c = solved (g .p) (g .D) (g .N) (length (g .roots)) (word (g .roots)) (powers g) (given-polynomial g) h k in
+    let c = solved (g .p) (g .D) (g .N) (length (g .roots)) (word (g .lengths)) (word (g .roots)) (powers g) (given-polynomial g) h k in
     let n = length-sheet c in
     let holds = holds-built g k _ (sheetWords c)
-    (solved-good (g .p) (g .D) (g .N) (length (g .roots)) (word (g .roots)) (powers g) (given-polynomial g) h k low high) (omega arith) (λ i l. refl) in
+    (solved-good (g .p) (g .D) (g .N) (length (g .roots)) (word (g .lengths)) (word (g .roots)) (powers g) (given-polynomial g) h k low high) (omega arith) (λ i l. refl) in
     let e = needed-is g k (sheetWords c) holds in
     record {
       words = sheetWords c;
@@ -111,7 +132,7 @@ sheet-exists g h k low high =
     }
 
 abbrev pub startContent : Given → Content
-startContent g = built (g .p) (g .D) (g .N) 1 (length (g .roots)) (word (g .roots)) (powers g) (given-polynomial g) (start (g .p) (word (g .roots)) (powers g))
+startContent g = built (g .p) (g .D) (g .N) 1 (length (g .roots)) (word (g .lengths)) (word (g .roots)) (powers g) (given-polynomial g) (start (g .p) (word (g .roots)) (powers g))
 
 unfoldable pub openWords : Given → List ℕ
 openWords g = sheetWords (startContent g)
@@ -131,7 +152,7 @@ module _ (g : Given) (old : List ℕ) (h : GivenReady g) (fits : needed g ≤ le
       let same = length-over (openWords g) old (omega arith) in
       record {
         same-length = same;
-        holds = holds-built g 1 _ (over (openWords g) old) (start-good (g .p) (g .D) (g .N) (length (g .roots)) (word (g .roots)) (powers g) (given-polynomial g) h) (omega arith) open-agrees;
+        holds = holds-built g 1 _ (over (openWords g) old) (start-good (g .p) (g .D) (g .N) (length (g .roots)) (word (g .lengths)) (word (g .roots)) (powers g) (given-polynomial g) h) (omega arith) open-agrees;
         fills = words-end (over (openWords g) old) (startContent g) open-agrees;
         rest = drop-at (openWords g) (drop (length (openWords g)) old) (needed g) n ∙ ap (λ m. drop m old) n;
       }

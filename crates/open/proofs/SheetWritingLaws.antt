@@ -1,11 +1,12 @@
 -- A fresh sheet, part after part.
 --   open-fresh, ready-fresh, needed-fresh   with the powers found these are the words that open writes, with what it knows, and T
 --   count-small                             the number of the roots is small
+--   front-written                           the header and the lengths
 --   Begun                                   what is known before the first part is written
 --   roots-part, factors-part                the length of the part that a call is lent
 --   sheet-written                           what stands there after the last one
 -- Assumes nothing.
-use Prim.Native.Nat.{ℕ, zero, suc, _+_, _-_, _*_, _≤_, _<_}
+use Prim.Native.Nat.{ℕ, zero, suc, _+_, _-_, _*_, _≤_}
 use native.Mathlib.Nat.{add-mul}
 use native.Mathlib.Omega.{arith}
 use mathlib.Core.Path.{_≡_, refl, sym, _∙_, ap, ap₂, subst}
@@ -14,19 +15,19 @@ use mathlib.Core.List.{List, _++_, append-assoc}
 use lib.ListN.{length, take, drop, length-append, length-drop}
 use lib.Seq.{length-take-le}
 use Rattle.algebra.specs.Sums.{sumTo}
-use Rattle.algebra.proofs.SumsLaws.{sumTo-suc}
-use Rattle.numbers.specs.Words.{word, over}
+use Rattle.numbers.specs.Words.{word, tabulate, over, least}
 use Rattle.numbers.proofs.WordsLaws.{Writing, writing-part, length-over, over-whole}
 use Rattle.numbers.specs.Limits.{largestDegree}
 use Rattle.rows.specs.Rows.{rowsOf, table}
 use Rattle.rows.proofs.RowsLaws.{rows-below, length-table, table-ext, table-rows}
-use Rattle.layout.specs.Layout.{rootsFrom, polynomialFrom, factorsFrom, headerOf}
+use Rattle.columns.proofs.ColumnLaws.{tabulate-words}
+use Rattle.layout.specs.Layout.{lengthsFrom, rootsFrom, polynomialFrom, factorsFrom, headerOf}
 use Rattle.layout.specs.internal.Places.{rootTable}
 use Rattle.layout.proofs.PlacesLaws.{count-sum}
 use Rattle.sheet.specs.Sheet.{Given, given-polynomial}
 use Rattle.sheet.specs.internal.Content.{size, entry, sheetWords}
 use Rattle.open.specs.Open.{powersOf, needed}
-use Rattle.open.specs.internal.Writing.{degreeOf, factorTable, freshContent, freshWords, FreshReady}
+use Rattle.open.specs.internal.Writing.{frontWords, degreeOf, factorTable, freshContent, freshWords, FreshReady}
 use Rattle.open.proofs.OpeningLaws.{orNil, GivenReady, openWords}
 
 -- with the powers found
@@ -51,9 +52,22 @@ count-small g powers h =
 lent : (s : List ℕ) (a b : ℕ) → a ≤ b → b ≤ length s → length (take (b - a) (drop a s)) ≡ b - a
 lent s a b l g = length-take-le (b - a) (drop a s) (omega (arith, length-drop a s))
 
+-- the header, and the lengths after it
+pub front-written : (p D N r : ℕ) (lengths old e y : List ℕ) (o m : ℕ) → length lengths ≡ D → rootsFrom D ≤ length old → o ≡ rootsFrom D → m ≡ least N (length lengths) (word lengths)
+    → e ≡ over (headerOf p D N 1 r m) old → y ≡ over lengths (take (o - lengthsFrom) (drop lengthsFrom e))
+    → take lengthsFrom e ++ (y ++ drop (o - lengthsFrom) (drop lengthsFrom e)) ≡ over (frontWords p D N r lengths) old
+front-written p D N r lengths old e y o m n fits is em q w =
+    let H = headerOf p D N 1 r m in
+    let z : Writing H old e = record { is = q; long = ap length q ∙ length-over H old (omega arith) } in
+    let l = z .long in
+    let long : length lengths ≡ o - lengthsFrom = omega arith in
+    ap (λ (x : List ℕ). take lengthsFrom e ++ (x ++ drop (o - lengthsFrom) (drop lengthsFrom e))) (w ∙ over-whole lengths _ (long ∙ sym (lent e lengthsFrom o (omega arith) (omega arith))))
+    ∙ writing-part H lengths old e lengthsFrom (o - lengthsFrom) z refl long (omega arith) .is
+    ∙ ap (λ k. over (headerOf p D N 1 r k ++ lengths) old) (em ∙ ap (λ k. least N k (word lengths)) n)
+
 -- three of its four parts; the rows given are the other one
-abbrev freshHeader : Given → List ℕ
-freshHeader g = headerOf (g .p) (g .D) (g .N) 1 (length (g .roots))
+abbrev freshFront : Given → List ℕ
+freshFront g = frontWords (g .p) (g .D) (g .N) (length (g .roots)) (g .lengths)
 
 abbrev freshRoots : Given → List ℕ → List ℕ
 freshRoots g powers = table (length (g .roots)) 2 (rootTable (g .roots) powers)
@@ -61,17 +75,19 @@ freshRoots g powers = table (length (g .roots)) 2 (rootTable (g .roots) powers)
 abbrev freshFactors : Given → List ℕ → List ℕ
 freshFactors g powers = table (degreeOf powers) (g .N) (factorTable (g .p) (g .roots) powers)
 
--- what is known before the first part is written over old: the polynomial begins at a, the factors at b
-pub record Begun (g : Given) (powers old : List ℕ) (T a b : ℕ) : Type 0 where
+-- what is known before the first part is written over old: the roots begin at o, the polynomial at a, the factors at b
+pub record Begun (g : Given) (powers old : List ℕ) (T o a b : ℕ) : Type 0 where
   pub ready : FreshReady g powers
   pub long-rows : length (g .rows) ≡ (g .D + 1) * g .N
+  pub long-lengths : length (g .lengths) ≡ g .D
   pub same : length powers ≡ length (g .roots)
   pub total : T ≡ size (freshContent g powers)
   pub fits : T ≤ length old
-  pub polynomial : a ≡ polynomialFrom (length (g .roots))
+  pub roots : o ≡ rootsFrom (g .D)
+  pub polynomial : a ≡ polynomialFrom (g .D) (length (g .roots))
   pub factors : b ≡ factorsFrom (g .D) (g .N) (length (g .roots))
 
-module _ {g : Given} {powers old : List ℕ} {T a b : ℕ} (h : Begun g powers old T a b) where
+module _ {g : Given} {powers old : List ℕ} {T o a b : ℕ} (h : Begun g powers old T o a b) where
   degree-is : degreeOf powers ≡ g .D
   degree-is = ap (λ n. sumTo n (word powers)) (h .same) ∙ h .ready .splits .degree
 
@@ -88,10 +104,20 @@ module _ {g : Given} {powers old : List ℕ} {T a b : ℕ} (h : Begun g powers o
       ap (word (g .rows)) (let z : 0 + j * g .N + t ≡ j * g .N + t = omega arith in z) ∙ sym (rows-below (g .rows) (g .N) (g .D + 1) j t l))
       ∙ table-rows (g .rows) (g .D + 1) (g .N) (h .long-rows)
 
-  fresh-is : freshWords g powers ≡ freshHeader g ++ (freshRoots g powers ++ (g .rows ++ freshFactors g powers))
+  abbrev header : List ℕ
+  header = headerOf (g .p) (g .D) (g .N) 1 (length (g .roots)) (least (g .N) (g .D) (word (g .lengths)))
+
+  abbrev others : List ℕ
+  others = table (length (g .roots)) 2 (entry (freshContent g powers)) ++ (table (g .D + 1) (g .N) (given-polynomial g) ++ table (g .D) (g .N) (factorTable (g .p) (g .roots) powers))
+
+  lengths-same : tabulate (g .D) (word (g .lengths)) ≡ g .lengths
+  lengths-same = ap (λ n. tabulate n (word (g .lengths))) (sym (h .long-lengths)) ∙ tabulate-words (g .lengths)
+
+  fresh-is : freshWords g powers ≡ freshFront g ++ (freshRoots g powers ++ (g .rows ++ freshFactors g powers))
   unfolding freshWords sheetWords
   fresh-is =
-      ap₂ (λ (x y : List ℕ). freshHeader g ++ (x ++ y))
+      ap (λ (x : List ℕ). header ++ (x ++ others)) lengths-same ∙ sym (append-assoc header (g .lengths) others)
+      ∙ ap₂ (λ (x y : List ℕ). freshFront g ++ (x ++ y))
       (table-ext (length (g .roots)) 2 (entry (freshContent g powers)) (rootTable (g .roots) powers) (λ i t _ _. entries-same i t))
       (ap₂ _++_ rows-same (ap (λ D. table D (g .N) (factorTable (g .p) (g .roots) powers)) (sym degree-is)))
 
@@ -109,38 +135,38 @@ module _ {g : Given} {powers old : List ℕ} {T a b : ℕ} (h : Begun g powers o
       length-table (degreeOf powers) (g .N) (factorTable (g .p) (g .roots) powers) ∙ (let w : degreeOf powers * g .N ≡ T - b = omega arith in w)
 
   -- where the parts begin
-  starts : (a ≡ rootsFrom + length (g .roots) * 2) × (b ≡ a + length (g .rows)) × (b ≤ T) × (T ≤ length old)
+  starts : (length (freshFront g) ≡ o) × (a ≡ o + length (g .roots) * 2) × (b ≡ a + length (g .rows)) × (b ≤ T) × (T ≤ length old)
   starts =
-      let x = sheet-end in let p = h .polynomial in let e = h .factors in let l = h .long-rows in
-      (omega arith, omega arith, omega arith, h .fits)
+      let x = sheet-end in let p = h .polynomial in let e = h .factors in let l = h .long-rows in let f = h .roots in let n = h .long-lengths in
+      (length-append header (g .lengths) ∙ (let w : lengthsFrom + length (g .lengths) ≡ o = omega arith in w), omega arith, omega arith, omega arith, h .fits)
 
-  front₂ : length (freshHeader g ++ freshRoots g powers) ≡ a
+  front₂ : length (freshFront g ++ freshRoots g powers) ≡ a
   front₂ =
       let s = starts in let y = length-table (length (g .roots)) 2 (rootTable (g .roots) powers) in
-      length-append (freshHeader g) (freshRoots g powers) ∙ (let w : rootsFrom + length (freshRoots g powers) ≡ a = omega arith in w)
+      length-append (freshFront g) (freshRoots g powers) ∙ (let w : length (freshFront g) + length (freshRoots g powers) ≡ a = omega arith in w)
 
-  front₃ : length ((freshHeader g ++ freshRoots g powers) ++ g .rows) ≡ b
+  front₃ : length ((freshFront g ++ freshRoots g powers) ++ g .rows) ≡ b
   front₃ =
       let s = starts in let x = front₂ in
-      length-append (freshHeader g ++ freshRoots g powers) (g .rows) ∙ (let w : length (freshHeader g ++ freshRoots g powers) + length (g .rows) ≡ b = omega arith in w)
+      length-append (freshFront g ++ freshRoots g powers) (g .rows) ∙ (let w : length (freshFront g ++ freshRoots g powers) + length (g .rows) ≡ b = omega arith in w)
 
-  module _ (e₁ : List ℕ) (q₁ : e₁ ≡ over (freshHeader g) old) where
-    written₁ : Writing (freshHeader g) old e₁
-    written₁ = let s = starts in record { is = q₁; long = ap length q₁ ∙ length-over (freshHeader g) old (omega arith) }
+  module _ (e₁ : List ℕ) (q₁ : e₁ ≡ over (freshFront g) old) where
+    written₁ : Writing (freshFront g) old e₁
+    written₁ = let s = starts in record { is = q₁; long = ap length q₁ ∙ length-over (freshFront g) old (omega arith) }
 
-    pub roots-part : length (take (a - rootsFrom) (drop rootsFrom e₁)) ≡ length (g .roots) * 2
-    roots-part = let s = starts in let z = written₁ .long in lent e₁ rootsFrom a (omega arith) (omega arith) ∙ (let w : a - rootsFrom ≡ length (g .roots) * 2 = omega arith in w)
+    pub roots-part : length (take (a - o) (drop o e₁)) ≡ length (g .roots) * 2
+    roots-part = let s = starts in let z = written₁ .long in lent e₁ o a (omega arith) (omega arith) ∙ (let w : a - o ≡ length (g .roots) * 2 = omega arith in w)
 
     module _ (y₂ : List ℕ) (q₂ : y₂ ≡ freshRoots g powers) where
       abbrev e₂ : List ℕ
-      e₂ = take rootsFrom e₁ ++ (y₂ ++ drop (a - rootsFrom) (drop rootsFrom e₁))
+      e₂ = take o e₁ ++ (y₂ ++ drop (a - o) (drop o e₁))
 
-      written₂ : Writing (freshHeader g ++ freshRoots g powers) old e₂
+      written₂ : Writing (freshFront g ++ freshRoots g powers) old e₂
       written₂ =
           let s = starts in
-          subst (λ (l : List ℕ). Writing (freshHeader g ++ freshRoots g powers) old (take rootsFrom e₁ ++ (l ++ drop (a - rootsFrom) (drop rootsFrom e₁)))) (sym q₂)
-          (writing-part (freshHeader g) (freshRoots g powers) old e₁ rootsFrom (a - rootsFrom) written₁ refl
-          (length-table (length (g .roots)) 2 (rootTable (g .roots) powers) ∙ (let w : length (g .roots) * 2 ≡ a - rootsFrom = omega arith in w)) (omega arith))
+          subst (λ (l : List ℕ). Writing (freshFront g ++ freshRoots g powers) old (take o e₁ ++ (l ++ drop (a - o) (drop o e₁)))) (sym q₂)
+          (writing-part (freshFront g) (freshRoots g powers) old e₁ o (a - o) written₁ (starts .0)
+          (length-table (length (g .roots)) 2 (rootTable (g .roots) powers) ∙ (let w : length (g .roots) * 2 ≡ a - o = omega arith in w)) (omega arith))
 
       rows-part : length (take (b - a) (drop a e₂)) ≡ length (g .rows)
       rows-part = let s = starts in let z = written₂ .long in lent e₂ a b (omega arith) (omega arith) ∙ (let w : b - a ≡ length (g .rows) = omega arith in w)
@@ -149,12 +175,12 @@ module _ {g : Given} {powers old : List ℕ} {T a b : ℕ} (h : Begun g powers o
         abbrev e₃ : List ℕ
         e₃ = take a e₂ ++ (y₃ ++ drop (b - a) (drop a e₂))
 
-        written₃ : Writing ((freshHeader g ++ freshRoots g powers) ++ g .rows) old e₃
+        written₃ : Writing ((freshFront g ++ freshRoots g powers) ++ g .rows) old e₃
         written₃ =
             let s = starts in
-            subst (λ (l : List ℕ). Writing ((freshHeader g ++ freshRoots g powers) ++ g .rows) old (take a e₂ ++ (l ++ drop (b - a) (drop a e₂))))
+            subst (λ (l : List ℕ). Writing ((freshFront g ++ freshRoots g powers) ++ g .rows) old (take a e₂ ++ (l ++ drop (b - a) (drop a e₂))))
             (sym (q₃ ∙ over-whole (g .rows) (take (b - a) (drop a e₂)) (sym rows-part)))
-            (writing-part (freshHeader g ++ freshRoots g powers) (g .rows) old e₂ a (b - a) written₂ front₂ (let w : length (g .rows) ≡ b - a = omega arith in w) (omega arith))
+            (writing-part (freshFront g ++ freshRoots g powers) (g .rows) old e₂ a (b - a) written₂ front₂ (let w : length (g .rows) ≡ b - a = omega arith in w) (omega arith))
 
         pub factors-part : length (take (T - b) (drop b e₃)) ≡ degreeOf powers * g .N
         factors-part =
@@ -165,6 +191,6 @@ module _ {g : Given} {powers old : List ℕ} {T a b : ℕ} (h : Begun g powers o
         sheet-written y₄ q₄ =
             let s = starts in
             ap (λ (l : List ℕ). take b e₃ ++ (l ++ drop (T - b) (drop b e₃))) q₄
-            ∙ writing-part ((freshHeader g ++ freshRoots g powers) ++ g .rows) (freshFactors g powers) old e₃ b (T - b) written₃ front₃ factors-long (omega arith) .is
-            ∙ ap (λ (l : List ℕ). over l old) (append-assoc (freshHeader g ++ freshRoots g powers) (g .rows) (freshFactors g powers)
-            ∙ append-assoc (freshHeader g) (freshRoots g powers) (g .rows ++ freshFactors g powers) ∙ sym fresh-is)
+            ∙ writing-part ((freshFront g ++ freshRoots g powers) ++ g .rows) (freshFactors g powers) old e₃ b (T - b) written₃ front₃ factors-long (omega arith) .is
+            ∙ ap (λ (l : List ℕ). over l old) (append-assoc (freshFront g ++ freshRoots g powers) (g .rows) (freshFactors g powers)
+            ∙ append-assoc (freshFront g) (freshRoots g powers) (g .rows ++ freshFactors g powers) ∙ sym fresh-is)

@@ -7,7 +7,7 @@
 --   isNone o           there are none
 --   needed g           T
 --   rising s           the words of s rise
---   polynomialChecks, listChecks, splitChecks, openChecks   the checks: refusals 1 to 6, of which sizeChecks are 3 to 6; 7 and 8; 9 and 10; and all of them
+--   polynomialChecks, listChecks, splitChecks, openChecks   the checks: refusals 1 to 6, of which sizeChecks are 3 to 6; 21, 7 and 8; 9 and 10; and all of them
 --   openVerdict g room what they come to
 --   OpenDone           what an accepted call leaves: the sheet of what is given, with one term; no word past T is changed
 --   Opened             open's answer and the words at exit
@@ -23,6 +23,7 @@ use Rattle.numbers.specs.Words.{word, allTo, firstLarge, outside, lowWord}
 use Rattle.numbers.specs.Refusals.{Check, check, judge, Outcome, result, modulusChecks, unreduced, widthCheck, roomCheck, Leaves}
 use Rattle.numbers.specs.declared.refusal.Verdict.{Verdict}
 use Rattle.numbers.specs.Limits.{largestDegree}
+use Rattle.series.specs.Known.{rowsKnown, unknownCheck}
 use Rattle.rows.specs.Rows.{unit}
 use Rattle.hensel.specs.Factors.{split}
 use Rattle.layout.specs.Layout.{total, end}
@@ -60,12 +61,12 @@ needed g = total (g .D) (g .N) (length (g .roots))
 abbrev pub rising : List ℕ → Bool
 rising s = allTo (length s - 1) (λ i. ltb (word s i) (word s (suc i)))
 
--- refusals 3 to 6
+-- refusals 3 to 6: each row but row D has a known length
 abbrev pub sizeChecks : Given → List Check
 sizeChecks g =
     check 3 (outside 1 largestDegree (g .D)) 0
     ∷ widthCheck (g .N)
-    ∷ check 5 (not (eqb (length (g .rows)) ((g .D + 1) * g .N))) 0
+    ∷ check 5 (not (eqb (length (g .rows)) ((g .D + 1) * g .N)) || not (eqb (length (g .lengths)) (g .D))) 0
     ∷ check 6 (unreduced (g .p) (g .rows ++ g .roots)) (lowWord (firstLarge (g .p) (g .rows ++ g .roots)))
     ∷ []
 
@@ -73,10 +74,11 @@ sizeChecks g =
 abbrev pub polynomialChecks : Given → List Check
 polynomialChecks g = modulusChecks (g .p) ++ sizeChecks g
 
--- refusals 7 and 8: the top row, and the list of roots
+-- refusals 21, 7 and 8: the known lengths, the top row, and the list of roots
 abbrev pub listChecks : Given → List Check
 listChecks g =
-    check 7 (not (allTo (g .N) (λ t. eqb (given-polynomial g (g .D) t) (unit t)))) 0
+    unknownCheck (rowsKnown (g .N) (g .D) (word (g .lengths)) (given-polynomial g))
+    ∷ check 7 (not (allTo (g .N) (λ t. eqb (given-polynomial g (g .D) t) (unit t)))) 0
     ∷ check 8 (outside 1 (g .D) (length (g .roots)) || not (rising (g .roots))) 0
     ∷ []
 

@@ -1,4 +1,5 @@
 // Opening a sheet: the checks of what is given, and the powers of the roots by repeated division.
+use layout::lengths::rows_known;
 use numbers::judge::check_modulus;
 use numbers::judge::first_large;
 use numbers::judge::outside;
@@ -14,12 +15,13 @@ ghost use mathlib.Core.Path.{_≡_};
 ghost use mathlib.Core.Bool.{not, _||_};
 ghost use mathlib.Core.List.{_++_};
 ghost use Prim.Native.Nat.{_+_, _-_, _*_, _≤_, _<_};
+ghost use lib.Dec.{eqb};
 ghost use lib.ListN.{length};
 ghost use Rattle.numbers.specs.Words.{lowWord, outside};
 ghost use Rattle.numbers.specs.Refusals.{judge, outcome};
 ghost use Rattle.numbers.specs.declared.refusal.Verdict.the-variants.{Pass};
-ghost use Rattle.numbers.specs.Limits.{largestDegree};
-ghost use Rattle.sheet.specs.Sheet.{givenOf};
+ghost use Rattle.numbers.specs.Limits.{largestDegree, largestWidth};
+ghost use Rattle.sheet.specs.Sheet.{givenOf, wholeOf};
 ghost use Rattle.open.specs.internal.Opening.{isUnit, PowersAnswer, CheckedOpen};
 ghost use Rattle.open.specs.Open.{rising, polynomialChecks, listChecks};
 
@@ -64,9 +66,20 @@ fn position(before: usize, at: usize) -> u32
     ((at % 4294967296 + before) % 4294967296) as u32
 }
 
+// Whether these have not the words that d and n say.
+fn other_words(d: u32, n: u32, rows: usize, lengths: usize) -> bool
+    requires { ⌜ (d ≤ largestDegree) × (n ≤ largestWidth) ⌝ }
+    ensures { λ r. ⌜ r ≡ (not (eqb rows ((d + 1) * n)) || not (eqb lengths d)) ⌝ }
+{
+    if rows != ((d + 1) * n) as usize {
+        return true;
+    }
+    lengths != d as usize
+}
+
 // Refusals 1 to 6.
-fn check_shape(p: u32, d: u32, n: u32, rows: &[u32], roots: &[u32]) -> Verdict
-    ensures { λ r. ⌜ r ≡ judge (polynomialChecks (givenOf p d n (now (rows .entry)) (now (roots .entry)))) ⌝ }
+fn check_shape(p: u32, d: u32, n: u32, rows: &[u32], lengths: &[u32], roots: &[u32]) -> Verdict
+    ensures { λ r. ⌜ r ≡ judge (polynomialChecks (givenOf p d n (now (rows .entry)) (now (lengths .entry)) (now (roots .entry)))) ⌝ }
 {
     let v = check_modulus(p);
     if let Verdict::Refuse(_) = v {
@@ -78,7 +91,7 @@ fn check_shape(p: u32, d: u32, n: u32, rows: &[u32], roots: &[u32]) -> Verdict
     if outside(1, LARGEST_WIDTH, n) {
         return refuse(4, 0);
     }
-    if rows.len() != ((d + 1) * n) as usize {
+    if other_words(d, n, rows.len(), lengths.len()) {
         return refuse(5, 0);
     }
     let at = first_large(p, rows);
@@ -105,14 +118,17 @@ fn unlisted(d: u32, roots: &[u32]) -> bool
     !rises(roots)
 }
 
-// Refusals 1 to 8.
-fn check_given(p: u32, d: u32, n: u32, rows: &[u32], roots: &[u32]) -> Verdict
-    ensures { λ r. ⌜ r ≡ judge (polynomialChecks (givenOf p d n (now (rows .entry)) (now (roots .entry)))
-        ++ listChecks (givenOf p d n (now (rows .entry)) (now (roots .entry)))) ⌝ }
+// Refusals 1 to 8, and 21.
+fn check_given(p: u32, d: u32, n: u32, rows: &[u32], lengths: &[u32], roots: &[u32]) -> Verdict
+    ensures { λ r. ⌜ r ≡ judge (polynomialChecks (givenOf p d n (now (rows .entry)) (now (lengths .entry)) (now (roots .entry)))
+        ++ listChecks (givenOf p d n (now (rows .entry)) (now (lengths .entry)) (now (roots .entry)))) ⌝ }
 {
-    let v = check_shape(p, d, n, rows, roots);
+    let v = check_shape(p, d, n, rows, lengths, roots);
     if let Verdict::Refuse(_) = v {
         return v;
+    }
+    if !rows_known(n as usize, rows, lengths) {
+        return refuse(21, 0);
     }
     let a = (d * n) as usize;
     let e = a + n as usize;
@@ -125,11 +141,11 @@ fn check_given(p: u32, d: u32, n: u32, rows: &[u32], roots: &[u32]) -> Verdict
     Verdict::Pass
 }
 
-// The powers of the roots that give f at X = 0, where there are any: f is given by rows that have passed refusals 1 to 8.
+// The powers of the roots that give f at X = 0, where there are any: f is given by rows that have passed refusals 1 to 8. How far they are known does not matter.
 fn powers_of(p: u32, d: u32, n: u32, rows: &[u32], roots: &[u32], powers: &mut [u32]) -> bool
-    requires { ⌜ (judge (polynomialChecks (givenOf p d n (now rows) (now roots)) ++ listChecks (givenOf p d n (now rows) (now roots))) ≡ Pass)
+    requires { ⌜ (judge (polynomialChecks (wholeOf p d n (now rows) (now roots)) ++ listChecks (wholeOf p d n (now rows) (now roots))) ≡ Pass)
         × (length (now powers) ≡ length (now roots)) ⌝ }
-    ensures { λ r. ⌜ PowersAnswer (givenOf p d n (now (rows .entry)) (now (roots .entry))) r (now (powers .exit)) ⌝ }
+    ensures { λ r. ⌜ PowersAnswer (wholeOf p d n (now (rows .entry)) (now (roots .entry))) r (now (powers .exit)) ⌝ }
 {
     let size = d as usize + 1;
     let mut e = [0u32; MOST_ROWS];
@@ -137,20 +153,21 @@ fn powers_of(p: u32, d: u32, n: u32, rows: &[u32], roots: &[u32], powers: &mut [
     find_powers(p, roots, &mut e[..size], powers)
 }
 
-// Refusals 1 to 10. The answer is T, and the powers of the roots stand first in `powers`.
+// Refusals 1 to 10, and 21. The answer is T, and the powers of the roots stand first in `powers`.
 pub fn check_open(
     p: u32,
     d: u32,
     n: u32,
     rows: &[u32],
+    lengths: &[u32],
     roots: &[u32],
     room: usize,
     powers: &mut [u32],
 ) -> Answer
     requires { ⌜ length (now powers) ≡ largestDegree ⌝ }
-    ensures { λ r. ⌜ CheckedOpen (givenOf p d n (now (rows .entry)) (now (roots .entry))) room (outcome r) (now (powers .exit)) ⌝ }
+    ensures { λ r. ⌜ CheckedOpen (givenOf p d n (now (rows .entry)) (now (lengths .entry)) (now (roots .entry))) room (outcome r) (now (powers .exit)) ⌝ }
 {
-    if let Verdict::Refuse(r) = check_given(p, d, n, rows, roots) {
+    if let Verdict::Refuse(r) = check_given(p, d, n, rows, lengths, roots) {
         return Answer::Refused(r);
     }
     let count = roots.len();

@@ -1,6 +1,7 @@
 // The words of a fresh sheet, with one term: at X = 0 factor i is (Y − c_i)^(m_i).
 use columns::copy;
-use layout::ROOTS_FROM;
+use layout::LENGTHS_FROM;
+use layout::lengths::least_length;
 use layout::writing::write_header;
 use layout::writing::write_roots;
 use numbers::limits::MOST_ROWS;
@@ -14,9 +15,10 @@ ghost use Rattle.numbers.specs.internal.Limits.{modulusBound};
 ghost use Rattle.numbers.specs.Limits.{largestDegree, mostRows, largestWidth};
 ghost use Rattle.rows.specs.Rows.{table};
 ghost use Rattle.hensel.specs.Factors.{rootPower, flat};
+ghost use Rattle.layout.specs.Layout.{rootsFrom};
 ghost use Rattle.sheet.specs.Sheet.{givenOf};
 ghost use Rattle.sheet.specs.internal.Content.{size};
-ghost use Rattle.open.specs.internal.Writing.{degreeOf, factorTable, freshContent, freshWords, FreshReady};
+ghost use Rattle.open.specs.internal.Writing.{frontWords, degreeOf, factorTable, freshContent, freshWords, FreshReady};
 
 // Rows with this first column, and 0 past it.
 fn spread(column: &[u32], n: usize, out: &mut [u32])
@@ -60,27 +62,39 @@ fn write_factors(p: u32, n: usize, roots: &[u32], powers: &[u32], out: &mut [u32
     }
 }
 
+// The header and the known lengths.
+fn write_front(p: u32, d: u32, n: u32, r: usize, lengths: &[u32], out: &mut [u32])
+    requires { ⌜ (d ≤ largestDegree) × (n ≤ largestWidth) × (r ≤ largestDegree) × (length (now lengths) ≡ d) × (rootsFrom d ≤ length (now out)) ⌝ }
+    ensures { λ _. ⌜ now (out .exit) ≡ over (frontWords p d n r (now (lengths .entry))) (now (out .entry)) ⌝ }
+{
+    let first = layout::roots_from(d as usize);
+    write_header(p, d, n, 1, r, least_length(n, lengths), out);
+    copy(lengths, &mut out[LENGTHS_FROM..first]);
+}
+
 // The sheet of what is given, whose powers are found, over the first words of out.
 pub fn write_sheet(
     p: u32,
     d: u32,
     n: u32,
     rows: &[u32],
+    lengths: &[u32],
     roots: &[u32],
     powers: &[u32],
     total: usize,
     out: &mut [u32],
 )
-    requires { ⌜ FreshReady (givenOf p d n (now rows) (now roots)) (now powers) × (length (now rows) ≡ (d + 1) * n)
-        × (length (now powers) ≡ length (now roots)) × (total ≡ size (freshContent (givenOf p d n (now rows) (now roots)) (now powers))) × (total ≤ length (now out)) ⌝ }
-    ensures { λ _. ⌜ now (out .exit) ≡ over (freshWords (givenOf p d n (now (rows .entry)) (now (roots .entry))) (now (powers .entry))) (now (out .entry)) ⌝ }
+    requires { ⌜ FreshReady (givenOf p d n (now rows) (now lengths) (now roots)) (now powers) × (length (now rows) ≡ (d + 1) * n) × (length (now lengths) ≡ d)
+        × (length (now powers) ≡ length (now roots)) × (total ≡ size (freshContent (givenOf p d n (now rows) (now lengths) (now roots)) (now powers))) × (total ≤ length (now out)) ⌝ }
+    ensures { λ _. ⌜ now (out .exit) ≡ over (freshWords (givenOf p d n (now (rows .entry)) (now (lengths .entry)) (now (roots .entry))) (now (powers .entry))) (now (out .entry)) ⌝ }
 {
     let width = n as usize;
     let r = roots.len();
-    let polynomial = layout::polynomial_from(r);
+    let first = layout::roots_from(d as usize);
+    let polynomial = layout::polynomial_from(d as usize, r);
     let factors = layout::factors_from(d as usize, width, r);
-    write_header(p, d, n, 1, r, out);
-    write_roots(roots, powers, &mut out[ROOTS_FROM..polynomial]);
+    write_front(p, d, n, r, lengths, out);
+    write_roots(roots, powers, &mut out[first..polynomial]);
     copy(rows, &mut out[polynomial..factors]);
     write_factors(p, width, roots, powers, &mut out[factors..total]);
 }

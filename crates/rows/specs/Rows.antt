@@ -4,6 +4,7 @@
 --   rowsChecks ..              the checks of sum and difference
 --   productChecks ..          of the product
 --   shiftChecks ..             of the shift: its number c stands after the coefficients
+--   rowSum p D N f g           f + g: that of two series of all their words, all of them known
 --   mul p a b j t              the coefficient of Y^j X^t of a · b: the sum over i = 0..j of row i of a times row j − i of b
 --   rowProduct ..              the words of the product
 --   linePower p c m j          the coefficient of Y^j of (Y + c)^m
@@ -12,7 +13,7 @@
 --   unit t                     the series 1, 0, 0, ..
 --   monic d a                  Y^d and the rows of a below d
 --   rowsBelow q s N rows from to   columns from..to − 1 of the rows are below q
--- Sums and differences are those of `series`, word by word.
+-- The difference is that of two such series.
 -- Assumes nothing.
 use Prim.Native.Nat.{ℕ, zero, suc, _+_, _-_, _*_, _%_}
 use mathlib.Core.Bool.{Bool}
@@ -21,6 +22,7 @@ use lib.Dec.{leb, ltb, eqb}
 use Rattle.algebra.specs.Sums.{sumTo}
 use Rattle.numbers.specs.Words.{word, choose, allTo, tabulate}
 use Rattle.numbers.specs.Refusals.{Check, check, roomCheck, inputChecks, operationChecks}
+use Rattle.series.specs.Series.{sums}
 
 unfoldable pub rowsOf : List ℕ → (N rows : ℕ) → ℕ → ℕ → ℕ
 rowsOf s N rows j t = choose (ltb j rows) (word s (j * N + t)) 0
@@ -37,6 +39,9 @@ productChecks p D₁ D₂ N f g room = operationChecks p N f (D₁ + 1) g (D₂ 
 
 abbrev pub shiftChecks : (p D N : ℕ) (f : List ℕ) (c room : ℕ) → List Check
 shiftChecks p D N f c room = inputChecks p N f (D + 1) [] 0 (D + 1) ++ (check 6 (leb p c) ((D + 1) * N) ∷ roomCheck room ((D + 1) * N) ∷ [])
+
+abbrev pub rowSum : (p D N : ℕ) (f g : List ℕ) → List ℕ
+rowSum p D N f g = let n = (D + 1) * N in sums p n f n g n
 
 unfoldable pub mul : ℕ → (ℕ → ℕ → ℕ) → (ℕ → ℕ → ℕ) → ℕ → ℕ → ℕ
 mul p a b j t = sumTo (suc j) (λ i. sumTo (suc t) (λ s. a i s * b (j - i) (t - s))) % p

@@ -10,8 +10,8 @@ ghost use Prim.Native.Nat.{_+_, _*_};
 ghost use lib.ListN.{length};
 ghost use Rattle.numbers.specs.Words.{over};
 ghost use Rattle.numbers.specs.Refusals.{judge, outcome, result, written};
-ghost use Rattle.series.specs.Series.{sums, differences};
-ghost use Rattle.rows.specs.Rows.{rowsChecks, productChecks, shiftChecks, rowProduct, rowShift};
+ghost use Rattle.series.specs.Series.{differences};
+ghost use Rattle.rows.specs.Rows.{rowsChecks, productChecks, shiftChecks, rowSum, rowProduct, rowShift};
 
 pub mod kernel; // the loops, for callers that have judged
 
@@ -19,7 +19,7 @@ pub mod kernel; // the loops, for callers that have judged
 pub fn sum(p: u32, d: u32, n: u32, f: &[u32], g: &[u32], out: &mut [u32]) -> Answer
     ensures answer { λ r. ⌜ outcome r ≡ result (judge (rowsChecks p d n (now (f .entry)) (now (g .entry)) (length (now (out .entry))))) ((d + 1) * n) ⌝ }
     ensures words { λ _. ⌜ now (out .exit) ≡ written (judge (rowsChecks p d n (now (f .entry)) (now (g .entry)) (length (now (out .entry)))))
-        (over (sums p ((d + 1) * n) (now (f .entry)) (now (g .entry))) (now (out .entry))) (now (out .entry)) ⌝ }
+        (over (rowSum p d n (now (f .entry)) (now (g .entry))) (now (out .entry))) (now (out .entry)) ⌝ }
 {
     let rows = d as usize + 1;
     if let Verdict::Refuse(r) = check_operation(p, n, f, rows, g, rows, rows, out.len()) {

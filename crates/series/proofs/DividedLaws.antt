@@ -18,7 +18,7 @@ use mathlib.Core.Bool.{false, not, _&&_}
 use mathlib.Core.List.{List, [], _∷_, _++_, append-nil}
 use borrow.Author.Tests.{lt-ltb, le-ltb, ltb-true, le-leb, lt-leb, leb-true}
 use lib.Dec.{leb, ltb}
-use lib.ListN.{length, take, drop, length-append, length-drop, List·getD-append, List·getD-eq-default}
+use lib.ListN.{length, take, drop, length-append, List·getD-append, List·getD-eq-default}
 use lib.Seq.{ext-getD, getD-take, getD-drop, getD-append-add, length-take-le}
 use Rattle.algebra.specs.Prime.{Prime}
 use Rattle.algebra.specs.Sums.{sumTo}
@@ -33,12 +33,12 @@ use Rattle.numbers.specs.declared.refusal.Refusal.{Refusal}
 use Rattle.numbers.specs.declared.refusal.Verdict.the-variants.{Pass, Refuse}
 use Rattle.numbers.specs.declared.refusal.Answer.{Answer}
 use Rattle.numbers.specs.declared.refusal.Answer.the-variants.{Refused}
-use Rattle.numbers.proofs.WordsLaws.{lt-or-ge, from, from-is, length-from, drop-below, length-over, writing-part, nonzero-is, nonzero-le, nonzero-there, nonzero-before, zeros-nonzero, length-tabulate, word-tabulate}
+use Rattle.numbers.proofs.WordsLaws.{lt-or-ge, from, from-is, length-from, drop-below, nonzero-is, nonzero-le, nonzero-there, nonzero-before, zeros-nonzero, length-tabulate, word-tabulate}
 use Rattle.numbers.proofs.RefusalsLaws.{both, after-same, skip-check, leave-refused, leave-done, operation-pass, pass-parts, pass-check, reduced, below-reduced}
 use Rattle.numbers.proofs.OneLaws.{verdict-one}
 use Rattle.series.specs.Series.{seriesChecks, productColumn, product, quotient}
 use Rattle.series.specs.Quotient.{leastPower, quotientChecks, IsQuotient, QuotientDone, Divided, quotientWords}
-use Rattle.series.proofs.SeriesLaws.{length-quotient, quotient-below}
+use Rattle.series.proofs.SeriesLaws.{product-whole, product-ext, length-quotient, quotient-below, zeros-after}
 use Rattle.series.proofs.CheckLaws.{last-refused, last-passed}
 use Rattle.series.proofs.QuotientLaws.{quotient-product, quotient-unique}
 
@@ -71,18 +71,13 @@ module _ (p : ℕ) (h g : List ℕ) (e : ℕ) (zeros : (t : ℕ) → t < e → w
       let high : sumTo e (λ i. F (t + 1 + i)) ≡ 0 = sumTo-zeros e _ (λ i l. term (t + 1 + i) (e + t - (t + 1 + i)) (omega arith)) in
       ap (λ (x : ℕ). x % p) (ap (λ (n : ℕ). sumTo n F) q ∙ sumTo-append (t + 1) e F ∙ ap₂ _+_ low high ∙ add-zero _)
 
--- a column of a product looks at the words up to it
-pub product-ext : (p : ℕ) (h h′ g : List ℕ) (t : ℕ) → ((i : ℕ) → i ≤ t → word h i ≡ word h′ i) → productColumn p h g t ≡ productColumn p h′ g t
-unfolding productColumn
-product-ext p h h′ g t e = ap (λ (x : ℕ). x % p) (sumTo-ext (t + 1) (λ i l. ap (λ (x : ℕ). x * word g (t - i)) (e i (omega arith))))
-
-pub product-least : (p N : ℕ) (f g h : List ℕ) → length g ≡ N → product p N h g ≡ f → leastPower g ≤ leastPower f
-unfolding product
+pub product-least : (p N : ℕ) (f g h : List ℕ) → length g ≡ N → product p N h N g N ≡ f → leastPower g ≤ leastPower f
 product-least p N f g h long back =
     let l = nonzero-le (length g) (word g) in
-    let q : length f ≡ N = ap length (sym back) ∙ length-tabulate N _ in
+    let is : tabulate N (productColumn p h g) ≡ f = sym (product-whole p N h g) ∙ back in
+    let q : length f ≡ N = ap length (sym is) ∙ length-tabulate N _ in
     zeros-nonzero (length f) (word f) (leastPower g) (omega arith)
-    (λ t u. ap (λ s. word s t) (sym back) ∙ word-tabulate N (productColumn p h g) t (omega arith) ∙ product-low p h g (leastPower g) (least-before g) t u)
+    (λ t u. ap (λ s. word s t) (sym is) ∙ word-tabulate N (productColumn p h g) t (omega arith) ∙ product-low p h g (leastPower g) (least-before g) t u)
 
 -- what passes
 module _ {p : ℕ} (prime : Prime p) (N : ℕ) (f g : List ℕ) (f-long : length f ≡ N) (g-long : length g ≡ N) (f-below : AllBelow p f) (g-below : AllBelow p g)
@@ -129,12 +124,11 @@ module _ {p : ℕ} (prime : Prime p) (N : ℕ) (f g : List ℕ) (f-long : length
   column-down h t = product-high p h g e (least-before g) t
 
   pub the-quotient : TheOne (IsQuotient p N f g) (quotientWords p N f g)
-  unfolding product
   the-quotient = record {
     is = record {
       series = (length-words, below-reduced p _ words-below);
       rest = words-high;
-      back = ext-getD 0 _ f (length-tabulate N _ ∙ sym f-long) (λ t l.
+      back = product-whole p N (quotientWords p N f g) g ∙ ext-getD 0 _ f (length-tabulate N _ ∙ sym f-long) (λ t l.
           let u : t < N = omega (arith, length-tabulate N (productColumn p (quotientWords p N f g) g)) in
           word-tabulate N _ t u ∙ column t u);
     };
@@ -148,7 +142,7 @@ module _ {p : ℕ} (prime : Prime p) (N : ℕ) (f g : List ℕ) (f-long : length
           (λ (l : e ≤ t).
           let q : e + (t - e) ≡ t = omega arith in
           ap (productColumn p (quotientWords p N f g) g) (sym q) ∙ column-down (quotientWords p N f g) (t - e)
-          ∙ product-ext p _ Q G (t - e) (λ i v. words-low i (omega arith))
+          ∙ product-ext p _ Q G G (t - e) (λ i v. words-low i (omega arith)) (λ i v. refl)
           ∙ quotient-product prime F G (drop-below p e f f-below) (drop-below p e g g-below) (divisor-first g (omega arith)) (N - e) (t - e) (omega arith)
           ∙ getD-drop e f (t - e) 0 ∙ ap (word f) q)
           (lt-or-ge t e)
@@ -161,8 +155,8 @@ module _ {p : ℕ} (prime : Prime p) (N : ℕ) (f g : List ℕ) (f-long : length
           let is : k ≡ Q =
           quotient-unique prime F G (drop-below p e f f-below) (drop-below p e g g-below) (divisor-first g (omega arith)) (N - e) k long
           (λ i l. rw (same i (omega arith)) (reduced p h (x .series .1) i (omega (arith, x .series .0))))
-          (λ t l. product-ext p k h G t (λ i v. same i (omega arith)) ∙ sym (column-down h t)
-          ∙ sym (word-tabulate N (productColumn p h g) (e + t) (omega arith)) ∙ ap (λ s. word s (e + t)) (x .back) ∙ sym (getD-drop e f t 0)) in
+          (λ t l. product-ext p k h G G t (λ i v. same i (omega arith)) (λ i v. refl) ∙ sym (column-down h t)
+          ∙ sym (word-tabulate N (productColumn p h g) (e + t) (omega arith)) ∙ ap (λ s. word s (e + t)) (sym (product-whole p N h g) ∙ x .back) ∙ sym (getD-drop e f t 0)) in
           ext-getD 0 h _ (x .series .0 ∙ sym length-words) (λ t l.
           ⊎-elim
           (λ (u : t < N - e). sym (same t u) ∙ ap (λ s. word s t) is ∙ sym (words-low t u))
@@ -190,13 +184,9 @@ module _ (p : ℕ) (f g old : List ℕ) (e : ℕ) (least : e ≡ leastPower g) (
       → take (length g - e) out ++ (ys ++ drop (length g - (length g - e)) (drop (length g - e) out)) ≡ over (quotientWords p (length g) f g) old
   words-written out ys room is zeros =
       let n = length g in
-      let q : n - (n - e) ≡ e = omega arith in
       let l : length divided ≡ n - e = length-quotient p _ (from f e) (from g e) ∙ length-from g e in
-      let long : length out ≡ length old = ap length is ∙ length-over divided old (omega arith) in
-      let m : length (part out (n - e) (n - (n - e))) ≡ e = length-take-le (n - (n - e)) (drop (n - e) out) (omega (arith, length-drop (n - e) out)) ∙ q in
-      let z : ys ≡ tabulate e (λ _. 0) = zeros ∙ ap (λ (k : ℕ). tabulate k (λ _. 0)) m in
-      writing-part divided ys old out (n - e) (n - (n - e)) (record { is = is; long = long }) l (ap length z ∙ length-tabulate e _ ∙ sym q) (omega arith) .is
-      ∙ ap (λ (s : List ℕ). over s old) (ap (λ (s : List ℕ). divided ++ s) z ∙ words-are)
+      zeros-after divided old out ys (n - e) n l (omega arith) room is zeros
+      ∙ ap (λ (s : List ℕ). over s old) (ap (λ (k : ℕ). divided ++ tabulate k (λ _. 0)) (let q : n - (n - e) ≡ e = omega arith in q) ∙ words-are)
 
 -- 1 by 0 modulo 2, into no words: 10 comes before 12
 pub short-first : judge (quotientChecks 2 1 (1 ∷ []) (0 ∷ []) 0) ≡ Refuse (refusal 10 1)

@@ -1,4 +1,5 @@
 pub mod SeriesLaws
+pub mod KnownLaws
 pub mod CheckLaws
 pub mod QuotientLaws
 pub mod DividedLaws

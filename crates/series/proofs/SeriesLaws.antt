@@ -1,22 +1,23 @@
--- Laws of the definitions of `specs/Series`: bounds of sums of products, what a pass along two rows gives, and the columns of the quotient.
+-- Laws of the definitions of `specs/Series`: bounds of sums of products, what a pass along two rows gives, sums and products of which all words are known, and the
+-- columns of the quotient; and zeros written after words.
 -- Assumes nothing.
 use mathlib.Core.Path.{_≡_, refl, sym, ap, subst, _∙_, ap₂}
 use mathlib.Core.Logic.{⊎-elim}
 use mathlib.Core.List.{List, [], _∷_, _++_}
-use Prim.Native.Nat.{ℕ, zero, suc, _+_, _-_, _*_, _%_, _≤_, _<_}
+use Prim.Native.Nat.{ℕ, zero, suc, _+_, _-_, _*_, _%_, _≤_, _<_, min}
 use native.Mathlib.Nat.{eq-or-lt-of-le, mod-lt, mul-le-mul}
 use native.Mathlib.Numerals.{add-one}
 use native.Mathlib.Omega.{arith}
-use lib.ListN.{length, take, set, length-append, List·getD-append, List·getD-eq-default}
-use lib.Seq.{getD-at, getD-drop}
+use lib.ListN.{length, take, drop, set, length-append, length-drop, List·getD-append, List·getD-eq-default}
+use lib.Seq.{getD-at, getD-drop, length-take-le}
 use Rattle.algebra.specs.Sums.{sumTo}
 use Rattle.algebra.proofs.SumsLaws.{sumTo-suc, sumTo-ext, sumTo-bound}
-use Rattle.numbers.specs.Words.{word}
+use Rattle.numbers.specs.Words.{word, tabulate, over, part}
 use Rattle.numbers.specs.internal.Facts.{AllBelow}
 use Rattle.numbers.specs.Divisor.{inverseOf}
-use Rattle.numbers.proofs.WordsLaws.{lt-or-ge, Writing, writing-store, writing-take, from, from-is}
+use Rattle.numbers.proofs.WordsLaws.{lt-or-ge, length-tabulate, tabulate-whole, length-over, Writing, writing-store, writing-part, writing-take, from, from-is}
 use Rattle.numbers.specs.internal.Limits.{modulusBound}
-use Rattle.series.specs.Series.{productColumn, quotientColumn, quotient}
+use Rattle.series.specs.Series.{sums, productColumn, product, quotientColumn, quotient}
 use Rattle.series.specs.internal.Dot.{dotSum}
 
 -- what a sum gains with one summand more
@@ -49,6 +50,21 @@ pub dot-column : (p : ℕ) (g h : List ℕ) (t : ℕ) → dotSum g h (t + 1) % p
 unfolding dotSum productColumn
 dot-column p g h t =
     ap (λ (x : ℕ). x % p) (sumTo-ext (t + 1) (λ i l. ap (λ (j : ℕ). word g i * word h j) (let e : t + 1 - (i + 1) ≡ t - i = omega arith in e)))
+
+-- where all words are known these are the sums and the columns of all of them
+pub sums-whole : (p n : ℕ) (g h : List ℕ) → sums p n g n h n ≡ tabulate n (λ t. (word g t + word h t) % p)
+unfolding sums
+sums-whole p n g h = tabulate-whole n (min n n) _ (omega arith)
+
+pub product-whole : (p n : ℕ) (g h : List ℕ) → product p n g n h n ≡ tabulate n (productColumn p g h)
+unfolding product
+product-whole p n g h = tabulate-whole n (min n n) _ (omega arith)
+
+-- a column of a product looks at the words up to it
+pub product-ext : (p : ℕ) (g g′ h h′ : List ℕ) (t : ℕ) → ((i : ℕ) → i ≤ t → word g i ≡ word g′ i) → ((i : ℕ) → i ≤ t → word h i ≡ word h′ i)
+    → productColumn p g h t ≡ productColumn p g′ h′ t
+unfolding productColumn
+product-ext p g g′ h h′ t e k = ap (λ (x : ℕ). x % p) (sumTo-ext (t + 1) (λ i l. ap₂ _*_ (e i (omega arith)) (k (t - i) (omega arith))))
 
 -- a pass along g from word 1 on is the sum of the quotient's column
 pub dot-rest : (g h : List ℕ) (t : ℕ) → dotSum (from g 1) h t ≡ sumTo t (λ i. word g (i + 1) * word h (t - (i + 1)))
@@ -134,3 +150,13 @@ column-store p t f g s e v w q h =
     subst (λ (xs : List ℕ). Writing xs s (set e t v))
     (ap (λ (x : ℕ). quotient p t f g ++ (x ∷ [])) q ∙ sym (quotient-next p t f g))
     (writing-store (quotient p t f g) s e t v w (length-quotient p t f g) h)
+
+-- words over old ones, and then zeros up to word n, written by a call that was lent the part from word k on
+pub zeros-after : (xs old out ys : List ℕ) (k n : ℕ) → length xs ≡ k → k ≤ n → n ≤ length old → out ≡ over xs old → ys ≡ tabulate (length (part out k (n - k))) (λ _. 0)
+    → take k out ++ (ys ++ drop (n - k) (drop k out)) ≡ over (xs ++ tabulate (n - k) (λ _. 0)) old
+zeros-after xs old out ys k n q h room is zeros =
+    let long : length out ≡ length old = ap length is ∙ length-over xs old (omega arith) in
+    let m : length (part out k (n - k)) ≡ n - k = length-take-le (n - k) (drop k out) (omega (arith, length-drop k out)) in
+    let z : ys ≡ tabulate (n - k) (λ _. 0) = zeros ∙ ap (λ (j : ℕ). tabulate j (λ _. 0)) m in
+    writing-part xs ys old out k (n - k) (record { is = is; long = long }) q (ap length z ∙ length-tabulate (n - k) _) (omega arith) .is
+    ∙ ap (λ (s : List ℕ). over (xs ++ s) old) z

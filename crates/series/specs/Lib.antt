@@ -1,3 +1,4 @@
+pub mod Known
 pub mod Series
 pub mod Quotient
 pub mod internal

@@ -25,7 +25,7 @@ quotientChecks p N f g room = seriesChecks p N f g room ++ (check 12 (not (ltb (
 pub record IsQuotient (p N : ℕ) (f g h : List ℕ) : Type 0 where
   pub series : IsSeries p N h
   pub rest : (t : ℕ) → N - leastPower g ≤ t → word h t ≡ 0
-  pub back : product p N h g ≡ f
+  pub back : product p N h N g N ≡ f
 
 abbrev pub QuotientDone : (p N : ℕ) (f g old new : List ℕ) → Type 0
 QuotientDone p N f g old new = (h : List ℕ) × IsQuotient p N f g h × (new ≡ over h old)

@@ -1,14 +1,15 @@
 // The loops along contiguous words, with sums in 64 bits and one reduction for each coefficient. These trust their caller: they have a
-// `requires`, all but `repeat`, and are for the crates of this repository. All are proved for every modulus below 2^24.
+// `requires`, all but `lesser`, `known_to` and `repeat`, and are for the crates of this repository. All are proved for every modulus below 2^24.
 use numbers::kernel::inverse_of;
 ghost use mathlib.Core.Path.{_≡_};
-ghost use Prim.Native.Nat.{_*_, _≤_, _<_};
+ghost use Prim.Native.Nat.{_*_, _≤_, _<_, min};
 ghost use lib.ListN.{length};
 ghost use Rattle.algebra.specs.Prime.{Prime};
 ghost use Rattle.numbers.specs.Words.{word, firstNonzero, tabulate, over};
 ghost use Rattle.numbers.specs.internal.Facts.{AllBelow};
 ghost use Rattle.numbers.specs.internal.Limits.{modulusBound};
 ghost use Rattle.numbers.specs.Limits.{largestWidth};
+ghost use Rattle.series.specs.Known.{knownTo};
 ghost use Rattle.series.specs.Series.{sums, differences, product, quotient};
 ghost use Rattle.series.specs.Quotient.{leastPower, quotientWords};
 ghost use Rattle.series.specs.internal.Dot.{dotSum};
@@ -44,6 +45,31 @@ pub fn first_nonzero(s: &[u32], step: usize, count: usize) -> usize
     i
 }
 
+// The lesser of two numbers.
+pub fn lesser(a: u32, b: u32) -> u32
+    ensures { λ r. ⌜ r ≡ min a b ⌝ }
+{
+    if a < b {
+        return a;
+    }
+    b
+}
+
+// Whether a row is known to n terms: n is from 1 to its width, and 0 stands from there on.
+pub fn known_to(s: &[u32], n: u32) -> bool
+    ensures { λ r. ⌜ r ≡ knownTo (length (now (s .entry))) n (word (now (s .entry))) ⌝ }
+{
+    let known = n as usize;
+    if known < 1 {
+        return false;
+    }
+    if s.len() < known {
+        return false;
+    }
+    let left = s.len() - known;
+    first_nonzero(&s[known..], 1, left) == left
+}
+
 // One word, over and over.
 pub fn repeat(x: u32, out: &mut [u32])
     ensures { λ _. ⌜ now (out .exit) ≡ tabulate (length (now (out .entry))) (λ _. x) ⌝ }
@@ -68,7 +94,7 @@ fn word_or_zero(s: &[u32], t: usize) -> u32
 // g + h, as many words as g has.
 pub fn add(p: u32, g: &[u32], h: &[u32], out: &mut [u32])
     requires { ⌜ (1 ≤ p) × (p < modulusBound) × (length (now h) ≡ length (now g)) × (length (now g) ≤ length (now out)) × AllBelow p (now g) × AllBelow p (now h) ⌝ }
-    ensures { λ _. ⌜ now (out .exit) ≡ over (sums p (length (now (g .entry))) (now (g .entry)) (now (h .entry))) (now (out .entry)) ⌝ }
+    ensures { λ _. ⌜ now (out .exit) ≡ over (sums p (length (now (g .entry))) (now (g .entry)) (length (now (g .entry))) (now (h .entry)) (length (now (g .entry)))) (now (out .entry)) ⌝ }
 {
     let n = g.len();
     let mut t = 0;
@@ -95,7 +121,7 @@ pub fn subtract(p: u32, g: &[u32], h: &[u32], out: &mut [u32])
 pub fn multiply(p: u32, g: &[u32], h: &[u32], out: &mut [u32])
     requires { ⌜ (1 ≤ p) × (p < modulusBound) × (length (now g) ≤ largestWidth) × (length (now h) ≡ length (now g)) × (length (now g) ≤ length (now out))
         × AllBelow p (now g) × AllBelow p (now h) ⌝ }
-    ensures { λ _. ⌜ now (out .exit) ≡ over (product p (length (now (g .entry))) (now (g .entry)) (now (h .entry))) (now (out .entry)) ⌝ }
+    ensures { λ _. ⌜ now (out .exit) ≡ over (product p (length (now (g .entry))) (now (g .entry)) (length (now (g .entry))) (now (h .entry)) (length (now (g .entry)))) (now (out .entry)) ⌝ }
 {
     let n = g.len();
     let modulus = p as u64;

@@ -1,29 +1,69 @@
 // Series modulo a prime: N words each, in slices that the caller lends. Every operation answers every input: it writes N words to the front of
-// `out` and answers how many of them are known, all N but for the quotient; or it refuses, and then `out` is as it was.
+// `out` and answers N, but for the quotient, which answers how many of them are known; or it refuses, and then `out` is as it was.
+use numbers::judge::check_inputs;
 use numbers::judge::check_operation;
 use numbers::refusal::Answer;
 use numbers::refusal::Verdict;
+use numbers::refusal::refuse;
 use numbers::refusal::refused;
 ghost use mathlib.Core.Path.{_≡_};
 ghost use mathlib.Core.List.{[], _∷_};
 ghost use lib.ListN.{length};
 ghost use Rattle.numbers.specs.Words.{over};
 ghost use Rattle.numbers.specs.Refusals.{judge, outcome, result, written};
-ghost use Rattle.series.specs.Series.{seriesChecks, inverseChecks, sums, differences, product, quotient};
+ghost use Rattle.series.specs.Series.{seriesChecks, knownChecks, inverseChecks, sums, differences, product, quotient};
 ghost use Rattle.series.specs.Quotient.{leastPower, Divided};
 
 pub mod kernel; // the loops, for callers that have judged
 
-// g + h.
-pub fn sum(p: u32, n: u32, g: &[u32], h: &[u32], out: &mut [u32]) -> Answer
-    ensures answer { λ r. ⌜ outcome r ≡ result (judge (seriesChecks p n (now (g .entry)) (now (h .entry)) (length (now (out .entry))))) n ⌝ }
-    ensures words { λ _. ⌜ now (out .exit) ≡ written (judge (seriesChecks p n (now (g .entry)) (now (h .entry)) (length (now (out .entry)))))
-        (over (sums p n (now (g .entry)) (now (h .entry))) (now (out .entry))) (now (out .entry)) ⌝ }
+// Refusals 1 to 6, 21 and 10 for operands of which so many terms are known.
+fn check_known(
+    p: u32,
+    n: u32,
+    g: &[u32],
+    gknown: u32,
+    h: &[u32],
+    hknown: u32,
+    room: usize,
+) -> Verdict
+    ensures { λ r. ⌜ r ≡ judge (knownChecks p n (now (g .entry)) gknown (now (h .entry)) hknown room) ⌝ }
 {
-    if let Verdict::Refuse(r) = check_operation(p, n, g, 1, h, 1, 1, out.len()) {
+    let v = check_inputs(p, n, g, 1, h, 1, 1);
+    if let Verdict::Refuse(_) = v {
+        return v;
+    }
+    if !kernel::known_to(g, gknown) {
+        return refuse(21, 0);
+    }
+    if !kernel::known_to(h, hknown) {
+        return refuse(21, 0);
+    }
+    if room < n as usize {
+        return refuse(10, n);
+    }
+    Verdict::Pass
+}
+
+// g + h. The terms known in both are those of the sum, and 0 stands after them.
+pub fn sum(
+    p: u32,
+    n: u32,
+    g: &[u32],
+    gknown: u32,
+    h: &[u32],
+    hknown: u32,
+    out: &mut [u32],
+) -> Answer
+    ensures answer { λ r. ⌜ outcome r ≡ result (judge (knownChecks p n (now (g .entry)) gknown (now (h .entry)) hknown (length (now (out .entry))))) n ⌝ }
+    ensures words { λ _. ⌜ now (out .exit) ≡ written (judge (knownChecks p n (now (g .entry)) gknown (now (h .entry)) hknown (length (now (out .entry)))))
+        (over (sums p n (now (g .entry)) gknown (now (h .entry)) hknown) (now (out .entry))) (now (out .entry)) ⌝ }
+{
+    if let Verdict::Refuse(r) = check_known(p, n, g, gknown, h, hknown, out.len()) {
         return Answer::Refused(r);
     }
-    kernel::add(p, g, h, out);
+    let known = kernel::lesser(gknown, hknown) as usize;
+    kernel::add(p, &g[..known], &h[..known], out);
+    kernel::repeat(0, &mut out[known..g.len()]);
     Answer::Done(n)
 }
 
@@ -40,16 +80,26 @@ pub fn difference(p: u32, n: u32, g: &[u32], h: &[u32], out: &mut [u32]) -> Answ
     Answer::Done(n)
 }
 
-// g · h.
-pub fn product(p: u32, n: u32, g: &[u32], h: &[u32], out: &mut [u32]) -> Answer
-    ensures answer { λ r. ⌜ outcome r ≡ result (judge (seriesChecks p n (now (g .entry)) (now (h .entry)) (length (now (out .entry))))) n ⌝ }
-    ensures words { λ _. ⌜ now (out .exit) ≡ written (judge (seriesChecks p n (now (g .entry)) (now (h .entry)) (length (now (out .entry)))))
-        (over (product p n (now (g .entry)) (now (h .entry))) (now (out .entry))) (now (out .entry)) ⌝ }
+// g · h. The terms known in both are those of the product, and 0 stands after them.
+pub fn product(
+    p: u32,
+    n: u32,
+    g: &[u32],
+    gknown: u32,
+    h: &[u32],
+    hknown: u32,
+    out: &mut [u32],
+) -> Answer
+    ensures answer { λ r. ⌜ outcome r ≡ result (judge (knownChecks p n (now (g .entry)) gknown (now (h .entry)) hknown (length (now (out .entry))))) n ⌝ }
+    ensures words { λ _. ⌜ now (out .exit) ≡ written (judge (knownChecks p n (now (g .entry)) gknown (now (h .entry)) hknown (length (now (out .entry)))))
+        (over (product p n (now (g .entry)) gknown (now (h .entry)) hknown) (now (out .entry))) (now (out .entry)) ⌝ }
 {
-    if let Verdict::Refuse(r) = check_operation(p, n, g, 1, h, 1, 1, out.len()) {
+    if let Verdict::Refuse(r) = check_known(p, n, g, gknown, h, hknown, out.len()) {
         return Answer::Refused(r);
     }
-    kernel::multiply(p, g, h, out);
+    let known = kernel::lesser(gknown, hknown) as usize;
+    kernel::multiply(p, &g[..known], &h[..known], out);
+    kernel::repeat(0, &mut out[known..g.len()]);
     Answer::Done(n)
 }
 

@@ -1,8 +1,6 @@
--- The content of a sheet, built from the rows of the factors; with it, a sheet for every k up to N.
---   built ..      the content whose factors have the rows a: rows block after block, 0 from column k on
---   Ready ..      what open needs of p, D, N, the polynomial, the roots and the powers
+-- The content of a sheet, built from the rows of the factors; with it, a sheet for every k up to the least known length.
 --   built-good    with rows that are the factors to k terms the content is good
---   solved-good   there is good content for every k from 1 to N
+--   solved-good   there is good content for every k from 1 to the least known length
 --   line-top      (Y − c)^m is monic
 --   start-good    with one term factor i is (Y − c_i)^(m_i)
 -- Assumes nothing.
@@ -10,19 +8,20 @@ use Prim.Native.Nat.{ℕ, zero, suc, _+_, _-_, _*_, _%_, _≤_, _<_}
 use native.Mathlib.Nat.{mod-eq-of-lt}
 use native.Mathlib.Omega.{arith}
 use mathlib.Core.Path.{_≡_, refl, sym, _∙_, ap}
-use borrow.Author.Tests.{lt-ltb, le-ltb, ltb-true}
+use borrow.Author.Tests.{lt-ltb, ltb-true}
 use lib.Dec.{ltb}
 use Rattle.sheet.specs.internal.Content.{Content, blockOf, stacked, cut, built, start, Splits, Ready}
 use Rattle.algebra.specs.Sums.{sumTo}
 use Rattle.algebra.proofs.SumsLaws.{sumTo-suc, sumTo-mono}
-use Rattle.numbers.proofs.WordsLaws.{first-is}
+use Rattle.numbers.specs.Words.{least}
+use Rattle.numbers.proofs.WordsLaws.{first-is, up-low, up-high, least-le, least-from}
 use Rattle.rows.specs.Rows.{linePower, monic}
 use Rattle.rows.proofs.RowsLaws.{line-lt, line-zero}
 use Rattle.rows.proofs.MonicLaws.{monic-low, monic-top, monic-above, by-place}
 use Rattle.hensel.specs.Factors.{product, IsFactors}
 use Rattle.hensel.proofs.FactorsLaws.{product-ext, factors-ext}
 use Rattle.sheet.proofs.ExistsLaws.{factors-splits, solution, solution-lt, solution-is}
-use Rattle.sheet.proofs.SheetsLaws.{factorOf, Good}
+use Rattle.sheet.proofs.SheetsLaws.{factorOf, Good, good-terms}
 
 block-is : (r : ℕ) (m : ℕ → ℕ) (i j : ℕ) → i < r → j < m i → blockOf r m (sumTo i m + j) ≡ i
 unfolding blockOf
@@ -37,31 +36,32 @@ stacked-is r m a i j t l g =
 
 pub cut-low : (k : ℕ) (b : ℕ → ℕ → ℕ) (j t : ℕ) → t < k → cut k b j t ≡ b j t
 unfolding cut
-cut-low k b j t l = rw (lt-ltb t k l)
+cut-low k b j t l = up-low k (b j) t l
 
 pub cut-high : (k : ℕ) (b : ℕ → ℕ → ℕ) (j t : ℕ) → k ≤ t → cut k b j t ≡ 0
 unfolding cut
-cut-high k b j t l = rw (le-ltb t k l)
+cut-high k b j t l = up-high k (b j) t l
 
-pub good-ready : (c : Content) → Good c → Ready (c .p) (c .D) (c .N) (c .r) (c .root) (c .power) (c .f)
+pub good-ready : (c : Content) → Good c → Ready (c .p) (c .D) (c .N) (c .r) (c .known) (c .root) (c .power) (c .f)
 good-ready c h = record {
   prime = h .prime;
   small = h .small;
   degree-low = h .degree-low;
   degree-high = h .degree-high;
-  width-low = let a = h .terms-low in let b = h .terms-high in omega arith;
+  width-low = let a = h .terms-low in let b = good-terms c h in omega arith;
   width-high = h .width-high;
   reduced = h .reduced;
   top = h .top;
+  lengths = h .lengths;
   splits = factors-splits (c .p) (c .D) (c .k) (c .r) (c .f) (c .root) (c .power) (factorOf c) (h .factors);
 }
 
-module _ (p D N r : ℕ) (root power : ℕ → ℕ) (f : ℕ → ℕ → ℕ) (h : Ready p D N r root power f) where
-  module _ (k : ℕ) (low : 1 ≤ k) (high : k ≤ N) (a : ℕ → ℕ → ℕ → ℕ) (lt : (i j t : ℕ) → a i j t < p) (is : IsFactors p D k r f root power a) where
-    row-is : (i : ℕ) → i < r → (j : ℕ) → j < power i → (t : ℕ) → t < k → factorOf (built p D N k r root power f a) i j t ≡ a i j t
+module _ (p D N r : ℕ) (known root power : ℕ → ℕ) (f : ℕ → ℕ → ℕ) (h : Ready p D N r known root power f) where
+  module _ (k : ℕ) (low : 1 ≤ k) (high : k ≤ least N D known) (a : ℕ → ℕ → ℕ → ℕ) (lt : (i j t : ℕ) → a i j t < p) (is : IsFactors p D k r f root power a) where
+    row-is : (i : ℕ) → i < r → (j : ℕ) → j < power i → (t : ℕ) → t < k → factorOf (built p D N k r known root power f a) i j t ≡ a i j t
     row-is i l j g t v = cut-low k (stacked r power a) (sumTo i power + j) t v ∙ stacked-is r power a i j t l g
 
-    pub built-good : Good (built p D N k r root power f a)
+    pub built-good : Good (built p D N k r known root power f a)
     unfolding stacked
     built-good = record {
       prime = h .prime;
@@ -73,20 +73,22 @@ module _ (p D N r : ℕ) (root power : ℕ → ℕ) (f : ℕ → ℕ → ℕ) (h
       terms-high = high;
       reduced = h .reduced;
       top = h .top;
-      factors = factors-ext p D k r f f root root power power a (factorOf (built p D N k r root power f a)) low (λ j l t g. refl) (λ i l. refl) (λ i l. refl) row-is is;
+      lengths = h .lengths;
+      reached = refl;
+      factors = factors-ext p D k r f f root root power power a (factorOf (built p D N k r known root power f a)) low (λ j l t g. refl) (λ i l. refl) (λ i l. refl) row-is is;
       factors-reduced = λ j l t g. rw (cut-low k (stacked r power a) j t g) (lt _ _ t);
       factors-rest = λ j l t g v. cut-high k (stacked r power a) j t g;
     }
 
   -- the content with k terms of the solution
   unfoldable pub solved : ℕ → Content
-  solved k = built p D N k r root power f (solution (h .prime) D N r f root power (h .splits) (h .width-low) (h .reduced) (h .top))
+  solved k = built p D N k r known root power f (solution (h .prime) D N r f root power (h .splits) (h .width-low) (h .reduced) (h .top))
 
-  pub solved-good : (k : ℕ) → 1 ≤ k → k ≤ N → Good (solved k)
+  pub solved-good : (k : ℕ) → 1 ≤ k → k ≤ least N D known → Good (solved k)
   unfolding solved
   solved-good k low high =
       built-good k low high _ (solution-lt (h .prime) D N r f root power (h .splits) (h .width-low) (h .reduced) (h .top))
-      (solution-is (h .prime) D N r f root power (h .splits) (h .width-low) (h .reduced) (h .top) k high)
+      (solution-is (h .prime) D N r f root power (h .splits) (h .width-low) (h .reduced) (h .top) k (omega (arith, least-le N known D)))
 
 -- (Y − c)^m is monic
 pub line-top : (p c m : ℕ) → 1 < p → linePower p c m m ≡ 1
@@ -113,6 +115,6 @@ pub start-lt : (p : ℕ) (root power : ℕ → ℕ) → 1 < p → (i j t : ℕ) 
 start-lt p root power two i j zero = line-lt p (p - root i) (power i) j two
 start-lt p root power two i j (suc t) = omega arith
 
-pub start-good : (p D N r : ℕ) (root power : ℕ → ℕ) (f : ℕ → ℕ → ℕ) → Ready p D N r root power f → Good (built p D N 1 r root power f (start p root power))
-start-good p D N r root power f h =
-    built-good p D N r root power f h 1 (omega arith) (h .width-low) (start p root power) (start-lt p root power (h .prime .two-le)) (start-is p D r f root power (h .prime .two-le) (h .splits))
+pub start-good : (p D N r : ℕ) (known root power : ℕ → ℕ) (f : ℕ → ℕ → ℕ) → Ready p D N r known root power f → Good (built p D N 1 r known root power f (start p root power))
+start-good p D N r known root power f h =
+    built-good p D N r known root power f h 1 (omega arith) (least-from N known 1 D (h .width-low) (λ j l. h .lengths j l .low)) (start p root power) (start-lt p root power (h .prime .two-le)) (start-is p D r f root power (h .prime .two-le) (h .splits))

@@ -1,18 +1,32 @@
 -- What a sheet holds, of two slices.
 --   holds-by        what a sheet holds is read before the factors, but for the terms
+--   whole-reach     where all is known to N there can be N terms
+--   holds-reach     a sheet reaches as far as what it holds is known
 --   holds-ext       slices with the same first T words hold the same
 -- Assumes nothing.
 use Prim.Native.Nat.{ℕ, _+_, _*_, _≤_, _<_}
 use native.Mathlib.Omega.{arith}
-use mathlib.Core.Path.{_≡_, _∙_, ap₂}
+use mathlib.Core.Path.{_≡_, _∙_, ap, ap₂}
 use mathlib.Core.Logic.{_≢_}
 use mathlib.Core.List.{List}
 use lib.ListN.{length}
-use Rattle.numbers.specs.Words.{word}
-use Rattle.layout.specs.Layout.{degree, width, terms, count, factorsFrom, end, polynomialFrom}
-use Rattle.sheet.specs.Sheet.{Sound, Given, Holds}
+use Rattle.numbers.specs.Words.{word, tabulate, least}
+use Rattle.numbers.proofs.WordsLaws.{word-tabulate, least-le, least-from, least-ext}
+use Rattle.layout.specs.Layout.{degree, width, terms, count, reach, known, lengthsFrom, rootsFrom, polynomialFrom, factorsFrom, end}
+use Rattle.sheet.specs.Sheet.{Sound, Given, wholeOf, given-reach, Holds}
 use Rattle.layout.proofs.RegionsLaws.{in-rows}
 use Rattle.sheet.proofs.SheetsLaws.{sound-ext}
+
+pub whole-reach : (p D N : ℕ) (rows roots : List ℕ) → given-reach (wholeOf p D N rows roots) ≡ N
+whole-reach p D N rows roots =
+    let L = word (tabulate D (λ _. N)) in
+    let a = least-le N L D in
+    let b = least-from N L N D (omega arith) (λ j l. rw (word-tabulate D (λ _. N) j l) (omega arith)) in
+    omega arith
+
+pub holds-reach : (g : Given) (k : ℕ) (s : List ℕ) → Holds g k s → reach s ≡ given-reach g
+holds-reach g k s h =
+    h .sound .reached ∙ least-ext (width s) (degree s) (known s) (word (g .lengths)) (h .same-lengths) ∙ ap₂ (λ N D. least N D (word (g .lengths))) (h .same-width) (h .same-degree)
 
 -- what a sheet holds is read before the factors, but for the terms
 pub holds-by : (g : Given) (k w : ℕ) (u s : List ℕ) → Holds g k u → Sound s → terms s ≡ w → ((i : ℕ) → i < factorsFrom (degree u) (width u) (count u) → i ≢ 3 → word s i ≡ word u i) → Holds g w s
@@ -25,10 +39,11 @@ holds-by g k w u s h sound e same =
       same-modulus = same 0 (omega arith) (omega arith) ∙ h .same-modulus;
       same-degree = eD ∙ h .same-degree;
       same-width = eN ∙ h .same-width;
+      same-lengths = λ j l. same (lengthsFrom + j) (omega arith) (omega arith) ∙ h .same-lengths j (omega arith);
       same-count = er ∙ h .same-count;
-      same-roots = λ i l. same _ (omega arith) (omega arith) ∙ h .same-roots i (omega arith);
+      same-roots = λ i l. ap (λ d. word s (rootsFrom d + 2 * i)) eD ∙ same (rootsFrom (degree u) + 2 * i) (omega arith) (omega arith) ∙ h .same-roots i (omega arith);
       same-polynomial = λ j l t v.
-          ap₂ (λ r n. word s (polynomialFrom r + j * n + t)) er eN
+          ap₂ (λ r n. word s (polynomialFrom (degree s) r + j * n + t)) er eN ∙ ap (λ d. word s (polynomialFrom d (count u) + j * width u + t)) eD
           ∙ same _ (omega (arith, in-rows (degree u + 1) (width u) j t (omega arith) (omega arith))) (omega arith) ∙ h .same-polynomial j (omega arith) t (omega arith);
       same-terms = e;
     }

@@ -1,5 +1,6 @@
 -- A sound sheet is one whose first T words are those of a sheet that holds good content.
 --   Good c          the conditions of a sound sheet, of what it holds
+--   good-terms, sound-terms   there are no more terms than columns
 --   good-move       content that agrees with good content is good
 --   sound-good      what a sound sheet holds is good ..
 --   sound-words     .. and its first T words are the words of what it holds
@@ -16,17 +17,19 @@ use lib.Seq.{ext-getD, getD-take, length-take-le}
 use Rattle.algebra.specs.Sums.{sumTo}
 use Rattle.algebra.proofs.SumsLaws.{sumTo-ext}
 use Rattle.algebra.specs.Prime.{Prime}
-use Rattle.numbers.specs.Words.{word}
+use Rattle.numbers.specs.Words.{word, least}
+use Rattle.numbers.proofs.WordsLaws.{least-le, least-ext}
 use Rattle.numbers.specs.Limits.{largestModulus, largestDegree, largestWidth}
+use Rattle.series.specs.Known.{KnownTo}
 use Rattle.rows.specs.Rows.{unit}
 use Rattle.hensel.specs.Factors.{IsFactors}
-use Rattle.layout.specs.Layout.{headerOf, modulus, degree, width, terms, count, rootsFrom, polynomialFrom, factorsFrom, root, power, end, polynomial}
+use Rattle.layout.specs.Layout.{headerOf, modulus, degree, width, terms, count, lengthsFrom, rootsFrom, polynomialFrom, factorsFrom, root, power, end, polynomial}
 use Rattle.sheet.specs.Sheet.{Sound}
 use Rattle.hensel.proofs.FactorsLaws.{factors-ext}
 use Rattle.layout.proofs.RegionsLaws.{in-rows, by-region}
 use Rattle.hensel.proofs.BlocksLaws.{in-block}
 use Rattle.sheet.specs.internal.Content.{Content, contentOf, size, headerWords, sheetWords}
-use Rattle.sheet.proofs.ContentLaws.{word-header, word-root, word-power, word-polynomial, word-factors, length-sheet, SameContent, same-size}
+use Rattle.sheet.proofs.ContentLaws.{word-header, word-known, word-root, word-power, word-polynomial, word-factors, length-sheet, SameContent, same-size}
 
 -- the rows of factor i
 abbrev pub factorOf : Content → ℕ → ℕ → ℕ → ℕ
@@ -39,12 +42,18 @@ pub record Good (c : Content) : Type 0 where
   pub degree-high : c .D ≤ largestDegree
   pub width-high : c .N ≤ largestWidth
   pub terms-low : 1 ≤ c .k
-  pub terms-high : c .k ≤ c .N
+  pub terms-high : c .k ≤ c .m
+  pub lengths : (j : ℕ) → j < c .D → KnownTo (c .N) (c .known j) (c .f j)
+  pub reached : c .m ≡ least (c .N) (c .D) (c .known)
   pub reduced : (j : ℕ) → j ≤ c .D → (t : ℕ) → t < c .N → c .f j t < c .p
   pub top : (t : ℕ) → t < c .N → c .f (c .D) t ≡ unit t
   pub factors : IsFactors (c .p) (c .D) (c .k) (c .r) (c .f) (c .root) (c .power) (factorOf c)
   pub factors-reduced : (j : ℕ) → j < c .D → (t : ℕ) → t < c .k → c .factors j t < c .p
   pub factors-rest : (j : ℕ) → j < c .D → (t : ℕ) → c .k ≤ t → t < c .N → c .factors j t ≡ 0
+
+-- there are no more terms than columns
+pub good-terms : (c : Content) → Good c → c .k ≤ c .N
+good-terms c h = let a = h .terms-high in let b = h .reached in omega (arith, least-le (c .N) (c .known) (c .D))
 
 -- the rows of a factor lie among the D rows
 pub factor-row : (c : Content) → Good c → (i j : ℕ) → i < c .r → j < c .power i → sumTo i (c .power) + j < c .D
@@ -58,7 +67,7 @@ module _ (c c′ : Content) (e : SameContent c c′) (h : Good c) where
   pub good-move : Good c′
   good-move =
       let ep = e .modulus in let eD = e .degree in let eN = e .width in let ek = e .terms in let er = e .count in
-      let kN = h .terms-high in
+      let kN = good-terms c h in
       record {
         prime = subst Prime ep (h .prime);
         small = let a = h .small in omega arith;
@@ -66,10 +75,19 @@ module _ (c c′ : Content) (e : SameContent c c′) (h : Good c) where
         degree-high = let a = h .degree-high in omega arith;
         width-high = let a = h .width-high in omega arith;
         terms-low = let a = h .terms-low in omega arith;
-        terms-high = omega arith;
+        terms-high = let a = h .terms-high in let b = e .reach in omega arith;
         reduced = λ j l t g.
             let a = h .reduced j (omega arith) t (omega arith) in let b = e .polynomial j t (omega arith) (omega arith) in omega arith;
         top = λ t g. ap (λ D. c′ .f D t) (sym eD) ∙ sym (e .polynomial (c .D) t (omega arith) (omega arith)) ∙ h .top t (omega arith);
+        lengths = λ j l.
+            let a = h .lengths j (omega arith) in
+            let b = e .lengths j (omega arith) in
+            record {
+              low = let z = a .low in omega arith;
+              high = let z = a .high in omega arith;
+              rest = λ t u v. sym (e .polynomial j t (omega arith) (omega arith)) ∙ a .rest t (omega arith) (omega arith);
+            };
+        reached = sym (e .reach) ∙ h .reached ∙ least-ext (c .N) (c .D) (c .known) (c′ .known) (e .lengths) ∙ ap₂ (λ N D. least N D (c′ .known)) eN eD;
         factors = rw (← ep, ← eD, ← ek, ← er) (factors-ext (c .p) (c .D) (c .k) (c .r) (c .f) (c′ .f) (c .root) (c′ .root) (c .power) (c′ .power) (factorOf c) (factorOf c′) (h .terms-low)
             (λ j l t g. sym (e .polynomial j t l (omega arith))) (λ i l. sym (e .roots i l)) (λ i l. sym (e .powers i l)) (λ i l j g t v. sym (same-factor i l j g t (omega arith))) (h .factors));
         factors-reduced = λ j l t g.
@@ -77,9 +95,10 @@ module _ (c c′ : Content) (e : SameContent c c′) (h : Good c) where
         factors-rest = λ j l t g v. sym (e .factors j t (omega arith) (omega arith)) ∙ h .factors-rest j (omega arith) t (omega arith) (omega arith);
       }
 
-header-same : {p p′ D D′ N N′ k k′ r r′ : ℕ} → p ≡ p′ → D ≡ D′ → N ≡ N′ → k ≡ k′ → r ≡ r′ → headerOf p D N k r ≡ headerOf p′ D′ N′ k′ r′
-header-same {p} {p′} {D} {D′} {N} {N′} {k} {k′} {r} {r′} e f g h i =
-    ap (λ x. headerOf x D N k r) e ∙ ap (λ x. headerOf p′ x N k r) f ∙ ap (λ x. headerOf p′ D′ x k r) g ∙ ap (λ x. headerOf p′ D′ N′ x r) h ∙ ap (λ x. headerOf p′ D′ N′ k′ x) i
+header-same : {p p′ D D′ N N′ k k′ r r′ m m′ : ℕ} → p ≡ p′ → D ≡ D′ → N ≡ N′ → k ≡ k′ → r ≡ r′ → m ≡ m′ → headerOf p D N k r m ≡ headerOf p′ D′ N′ k′ r′ m′
+header-same {p} {p′} {D} {D′} {N} {N′} {k} {k′} {r} {r′} {m} {m′} e f g h i j =
+    ap (λ x. headerOf x D N k r m) e ∙ ap (λ x. headerOf p′ x N k r m) f ∙ ap (λ x. headerOf p′ D′ x k r m) g ∙ ap (λ x. headerOf p′ D′ N′ x r m) h
+    ∙ ap (λ x. headerOf p′ D′ N′ k′ x m) i ∙ ap (λ x. headerOf p′ D′ N′ k′ r′ x) j
 
 module _ (s : List ℕ) where
   pub sound-good : Sound s → Good (contentOf s)
@@ -93,20 +112,25 @@ module _ (s : List ℕ) where
     terms-high = h .terms-high;
     reduced = h .polynomial-reduced;
     top = h .polynomial-monic;
+    lengths = h .lengths;
+    reached = h .reached;
     factors = h .factors;
     factors-reduced = h .factors-reduced;
     factors-rest = h .factors-rest;
   }
 
+  pub sound-terms : Sound s → terms s ≤ width s
+  sound-terms h = good-terms (contentOf s) (sound-good h)
+
   pub sound-words : Sound s → (i : ℕ) → i < end s → word s i ≡ word (sheetWords (contentOf s)) i
   sound-words h =
       let c = contentOf s in
-      by-region (λ i. word s i ≡ word (sheetWords c) i) (degree s) (width s) (count s) (let a = h .terms-low in let b = h .terms-high in omega arith)
-      (λ i l. h .header i l ∙ sym (word-header c i l)) (λ i l. sym (word-root c i l)) (λ i l. sym (word-power c i l))
+      by-region (λ i. word s i ≡ word (sheetWords c) i) (degree s) (width s) (count s) (let a = h .terms-low in let b = sound-terms h in omega arith)
+      (λ i l. h .header i l ∙ sym (word-header c i l)) (λ j l. sym (word-known c j l)) (λ i l. sym (word-root c i l)) (λ i l. sym (word-power c i l))
       (λ j l t g. sym (word-polynomial c j t l g)) (λ j l t g. sym (word-factors c j t l g))
 
   module _ (c : Content) (agree : (i : ℕ) → i < size c → word s i ≡ word (sheetWords c) i) where
-    at-header : (i : ℕ) → i < 10 → word s i ≡ word (headerWords c) i
+    at-header : (i : ℕ) → i < lengthsFrom → word s i ≡ word (headerWords c) i
     at-header i l = agree i (omega arith) ∙ word-header c i l
 
     pub words-content : SameContent c (contentOf s)
@@ -120,9 +144,11 @@ module _ (s : List ℕ) where
           width = sym eN;
           terms = sym (at-header 3 (omega arith));
           count = sym er;
-          roots = λ i l. sym (agree (rootsFrom + 2 * i) (omega arith) ∙ word-root c i l);
-          powers = λ i l. sym (agree (rootsFrom + 2 * i + 1) (omega arith) ∙ word-power c i l);
-          polynomial = λ j t l g. sym (ap₂ (λ r n. word s (polynomialFrom r + j * n + t)) er eN
+          reach = sym (at-header 10 (omega arith));
+          lengths = λ j l. sym (agree (lengthsFrom + j) (omega arith) ∙ word-known c j l);
+          roots = λ i l. sym (ap (λ d. word s (rootsFrom d + 2 * i)) eD ∙ agree (rootsFrom (c .D) + 2 * i) (omega arith) ∙ word-root c i l);
+          powers = λ i l. sym (ap (λ d. word s (rootsFrom d + 2 * i + 1)) eD ∙ agree (rootsFrom (c .D) + 2 * i + 1) (omega arith) ∙ word-power c i l);
+          polynomial = λ j t l g. sym (ap₂ (λ r n. word s (polynomialFrom (degree s) r + j * n + t)) er eN ∙ ap (λ d. word s (polynomialFrom d (c .r) + j * c .N + t)) eD
               ∙ agree _ (omega (arith, in-rows (c .D + 1) (c .N) j t (omega arith) g)) ∙ word-polynomial c j t l g);
           factors = λ j t l g. sym (ap₂ (λ r n. word s (factorsFrom (degree s) n r + j * n + t)) er eN ∙ ap (λ d. word s (factorsFrom d (c .N) (c .r) + j * c .N + t)) eD
               ∙ agree _ (omega (arith, in-rows (c .D) (c .N) j t l g)) ∙ word-factors c j t l g);
@@ -145,10 +171,12 @@ module _ (s : List ℕ) where
           width-high = g .width-high;
           terms-low = g .terms-low;
           terms-high = g .terms-high;
-          header = λ i l. at-header i l ∙ ap (λ x. word x i) (header-same (e .modulus) eD eN (e .terms) er);
+          header = λ i l. at-header i l ∙ ap (λ x. word x i) (header-same (e .modulus) eD eN (e .terms) er (e .reach));
           long = omega arith;
           polynomial-reduced = g .reduced;
           polynomial-monic = g .top;
+          lengths = g .lengths;
+          reached = g .reached;
           factors = g .factors;
           factors-reduced = g .factors-reduced;
           factors-rest = g .factors-rest;

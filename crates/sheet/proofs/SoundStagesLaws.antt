@@ -10,39 +10,33 @@ use mathlib.Core.List.{List}
 use Prim.Native.Nat.{ℕ, _+_, _-_, _*_, _≤_, _<_, zero, suc}
 use native.Mathlib.Numerals.{add-one}
 use native.Mathlib.Omega.{arith}
-use borrow.Author.Tests.{lt-ltb, le-ltb}
 use lib.Dec.{ltb}
-use lib.ListN.{length, take, drop, length-drop}
-use lib.Seq.{getD-take, getD-drop, length-take-le}
+use lib.ListN.{length}
 use Rattle.algebra.specs.Sums.{sumTo}
 use Rattle.algebra.proofs.SumsLaws.{sumTo-zero}
-use Rattle.numbers.specs.Words.{word, choose, part}
+use Rattle.numbers.specs.Words.{word, choose, part, upTo}
 use Rattle.numbers.specs.internal.Facts.{Decides}
 use Rattle.numbers.proofs.TestsLaws.{decided-test}
-use Rattle.numbers.proofs.WordsLaws.{lt-or-ge}
+use Rattle.numbers.proofs.WordsLaws.{lt-or-ge, word-part, up-low, up-high, least-le}
 use Rattle.layout.proofs.PlacesLaws.{count-sum}
+use Rattle.layout.proofs.RegionsLaws.{rowPart, row-word, row-long}
 use Rattle.rows.proofs.RowsLaws.{row-fits}
 use Rattle.hensel.specs.Factors.{IsFactors}
 use Rattle.hensel.proofs.FactorsLaws.{factors-unique, factors-ext}
 use Rattle.hensel.proofs.BlocksLaws.{locate, in-block}
 use Rattle.layout.specs.declared.Header.{Header}
 use Rattle.layout.specs.internal.Places.{HeaderIs}
-use Rattle.layout.specs.Layout.{modulus, degree, width, terms, count, factorsFrom, root, power, polynomial, factor, factorRows, rootsFrom, headerOf}
+use Rattle.layout.specs.Layout.{modulus, degree, width, terms, count, factorsFrom, root, power, polynomial, factor, factorRows, reach, known, lengthsFrom, headerOf}
 use Rattle.sheet.specs.Sheet.{Sound}
 use Rattle.sheet.specs.Test.{soundTest}
 use Rattle.front.specs.internal.Front.{OffsetsFit, Shape, PolynomialFits, topFrom, Front}
-use Rattle.sheet.specs.internal.Stages.{SplitFits, blockRows, upTo, Computed, SameTerms}
+use Rattle.sheet.specs.internal.Stages.{SplitFits, blockRows, Computed, SameTerms}
+use Rattle.sheet.proofs.SheetsLaws.{sound-terms}
 use Rattle.sheet.proofs.SoundTestLaws.{sound-test}
 use Rattle.sheet.proofs.WorkLaws.{unit-later, top-is}
 
-pub up-low : (k : ℕ) (a : ℕ → ℕ) (t : ℕ) → t < k → upTo k a t ≡ a t
-up-low k a t l = rw (lt-ltb t k l)
-
-pub up-high : (k : ℕ) (a : ℕ → ℕ) (t : ℕ) → k ≤ t → upTo k a t ≡ 0
-up-high k a t l = rw (le-ltb t k l)
-
--- the header's ten words, from the offsets
-offsets-header : (s : List ℕ) → OffsetsFit s → (i : ℕ) → i < rootsFrom → word s i ≡ word (headerOf (modulus s) (degree s) (width s) (terms s) (count s)) i
+-- the header's eleven words, from the offsets
+offsets-header : (s : List ℕ) → OffsetsFit s → (i : ℕ) → i < lengthsFrom → word s i ≡ word (headerOf (modulus s) (degree s) (width s) (terms s) (count s) (reach s)) i
 offsets-header s h zero l = refl
 offsets-header s h (suc zero) l = refl
 offsets-header s h (suc (suc zero)) l = refl
@@ -53,32 +47,25 @@ offsets-header s h (suc (suc (suc (suc (suc (suc zero)))))) l = h .offset-polyno
 offsets-header s h (suc (suc (suc (suc (suc (suc (suc zero))))))) l = h .offset-factors
 offsets-header s h (suc (suc (suc (suc (suc (suc (suc (suc zero)))))))) l = h .offset-rest
 offsets-header s h (suc (suc (suc (suc (suc (suc (suc (suc (suc zero))))))))) l = h .offset-end
-offsets-header s h (suc (suc (suc (suc (suc (suc (suc (suc (suc (suc i)))))))))) l = absurd (let z : ⊥ = omega arith in z)
+offsets-header s h (suc (suc (suc (suc (suc (suc (suc (suc (suc (suc zero)))))))))) l = refl
+offsets-header s h (suc (suc (suc (suc (suc (suc (suc (suc (suc (suc (suc i))))))))))) l = absurd (let z : ⊥ = omega arith in z)
 
 -- row j of rows of n words, as it is lent to be compared
 abbrev pub RowSame : (n k : ℕ) (stored computed : List ℕ) → ℕ → Type 0
 RowSame n k stored computed j = (t : ℕ) → t < n → word stored (j * n + t) ≡ upTo k (λ t. word computed (j * n + t)) t
 
-abbrev rowPart : (n j : ℕ) → List ℕ → List ℕ
-rowPart n j s = take (j * n + n - j * n) (drop (j * n) s)
-
 module _ (j d n : ℕ) where
-  row-word : (s : List ℕ) (t : ℕ) → t < n → word (rowPart n j s) t ≡ word s (j * n + t)
-  row-word s t l = getD-take (j * n + n - j * n) (drop (j * n) s) t 0 (omega arith) ∙ getD-drop (j * n) s t 0
-
-  pub row-long : (s : List ℕ) → j < d → length s ≡ d * n → length (rowPart n j s) ≡ n
-  row-long s l e =
-      let z : j * n + n - j * n ≡ n = omega arith in
-      ap (λ x. length (take x (drop (j * n) s))) z ∙ length-take-le n (drop (j * n) s) (omega (arith, length-drop (j * n) s, row-fits j d n l))
+  pub row-whole : (s : List ℕ) → j < d → length s ≡ d * n → length (rowPart n j s) ≡ n
+  row-whole s l e = row-long j n s (omega (arith, row-fits j d n l))
 
   module _ (k : ℕ) (stored computed : List ℕ) (l : j < d) (ns : length stored ≡ d * n) (nc : length computed ≡ d * n) where
     pub row-same : ((t : ℕ) → t < length (rowPart n j stored) → word (rowPart n j stored) t ≡ upTo k (word (rowPart n j computed)) t) → RowSame n k stored computed j
-    row-same h t u = sym (row-word stored t u) ∙ h t (omega (arith, row-long stored l ns)) ∙ ap (λ (x : ℕ). choose (ltb t k) x 0) (row-word computed t u)
+    row-same h t u = sym (row-word j n stored t u) ∙ h t (omega (arith, row-whole stored l ns)) ∙ ap (λ (x : ℕ). choose (ltb t k) x 0) (row-word j n computed t u)
 
     pub row-back : RowSame n k stored computed j → (t : ℕ) → t < length (rowPart n j stored) → word (rowPart n j stored) t ≡ upTo k (word (rowPart n j computed)) t
     row-back h t u =
-        let v : t < n = omega (arith, row-long stored l ns) in
-        row-word stored t v ∙ h t v ∙ ap (λ (x : ℕ). choose (ltb t k) x 0) (sym (row-word computed t v))
+        let v : t < n = omega (arith, row-whole stored l ns) in
+        row-word j n stored t v ∙ h t v ∙ ap (λ (x : ℕ). choose (ltb t k) x 0) (sym (row-word j n computed t v))
 
 -- factors to w terms are factors to fewer
 pub factors-fewer : (p D k w r : ℕ) (f : ℕ → ℕ → ℕ) (root power : ℕ → ℕ) (a : ℕ → ℕ → ℕ → ℕ) → k ≤ w → IsFactors p D w r f root power a → IsFactors p D k r f root power a
@@ -111,6 +98,7 @@ module _ (s : List ℕ) (h : Sound s) where
       width-high = h .width-high;
       terms-low = h .terms-low;
       terms-high = h .terms-high;
+      reach-high = omega (arith, h .reached, least-le (width s) (known s) (degree s));
       count-low = count-low;
       count-high = omega (arith, count-sum (count s) (power s) (h .factors .powers), h .factors .degree);
     };
@@ -128,7 +116,7 @@ module _ (s : List ℕ) (h : Sound s) where
   sound-words : PolynomialFits s
   sound-words = record {
     reduced = λ j l t _ g. h .polynomial-reduced j (omega arith) t g;
-    top = ap (word s) (let e : topFrom s ≡ topFrom s + 0 = omega arith in e) ∙ h .polynomial-monic 0 (omega (arith, h .terms-low, h .terms-high));
+    top = ap (word s) (let e : topFrom s ≡ topFrom s + 0 = omega arith in e) ∙ h .polynomial-monic 0 (omega (arith, h .terms-low, sound-terms s h));
     later = λ j l t u g.
         let z : j ≡ 0 = omega arith in
         let e : word s (topFrom s + j * width s + t) ≡ 0 =
@@ -142,6 +130,7 @@ module _ (s : List ℕ) (h : Sound s) where
     below = h .factors .reduced;
     rise = λ i l. subst (λ (x : ℕ). root s i < root s x) (sym (add-one i)) (h .factors .rising i (omega arith));
     words = sound-words;
+    lengths = record { each = h .lengths; reached = h .reached };
   }
 
   pub sound-split : SplitFits s
@@ -160,7 +149,7 @@ module _ (s : List ℕ) (h : Front s) (w : ℕ) (rows : List ℕ) (g : Computed 
       ⊎-elim
       (λ (u : t < terms s).
       let k = terms s in
-      let low = f .terms-low in let high = f .terms-high in
+      let low = f .terms-low in let high = sound-terms s f in
       let c = factors-unique (f .prime) (k - 1) k w (degree s) (degree s) (count s) (count s) (polynomial s) (polynomial s) (root s) (root s) (power s) (power s) (factor s) (blockRows (width s) (power s) rows)
       (f .factors) (g .factors) (omega arith) (omega arith)
       (λ i a q o t x. f .factors-reduced (sumTo i (power s) + q) (inner i a q o) t (omega arith))
@@ -174,11 +163,11 @@ module _ (s : List ℕ) (h : Front s) (w : ℕ) (rows : List ℕ) (g : Computed 
 
   module _ (same : (j : ℕ) → j < degree s → (t : ℕ) → t < width s → factorRows s j t ≡ upTo (terms s) (λ t. word rows (j * width s + t)) t) where
     stored : (j : ℕ) → j < degree s → (t : ℕ) → t < terms s → factorRows s j t ≡ word rows (j * width s + t)
-    stored j l t u = same j l t (let z = h .shape .header .terms-high in omega arith) ∙ up-low (terms s) (λ t. word rows (j * width s + t)) t u
+    stored j l t u = same j l t (omega (arith, h .shape .header .terms-high, h .shape .header .reach-high)) ∙ up-low (terms s) (λ t. word rows (j * width s + t)) t u
 
     pub stages-sound : Sound s
     stages-sound =
-        let low = h .shape .header .terms-low in let high = h .shape .header .terms-high in
+        let low = h .shape .header .terms-low in let high = h .shape .header .terms-high in let wide = h .shape .header .reach-high in
         record {
           prime = h .shape .header .prime;
           small = h .shape .header .small;
@@ -191,6 +180,8 @@ module _ (s : List ℕ) (h : Front s) (w : ℕ) (rows : List ℕ) (g : Computed 
           long = h .shape .offsets .long;
           polynomial-reduced = λ j l t u. h .words .reduced j (omega arith) t (omega arith) u;
           polynomial-monic = top-is s h;
+          lengths = h .lengths .each;
+          reached = h .lengths .reached;
           factors = factors-ext (modulus s) (degree s) (terms s) (count s) (polynomial s) (polynomial s) (root s) (root s) (power s) (power s) (blockRows (width s) (power s) rows) (factor s) low
               (λ j l t u. refl) (λ i l. refl) (λ i l. refl) (λ i l j u t v. stored (sumTo i (power s) + j) (inner i l j u) t v)
               (factors-fewer (modulus s) (degree s) (terms s) w (count s) (polynomial s) (root s) (power s) (blockRows (width s) (power s) rows) k-low (g .factors));
@@ -212,7 +203,7 @@ module _ (s : List ℕ) (h : Front s) (w : ℕ) (rows : List ℕ) (g : Computed 
       stored-word : (j : ℕ) → j < degree s → (t : ℕ) → t < width s → word x (j * width s + t) ≡ factorRows s j t
       stored-word j l t u =
           let from = factorsFrom (degree s) (width s) (count s) in
-          ap (λ y. word y (j * width s + t)) e ∙ getD-take (degree s * width s) (drop from s) (j * width s + t) 0 (omega (arith, row-fits j (degree s) (width s) l)) ∙ getD-drop from s (j * width s + t) 0
+          ap (λ y. word y (j * width s + t)) e ∙ word-part s from (degree s * width s) (j * width s + t) (omega (arith, row-fits j (degree s) (width s) l))
           ∙ ap (word s) (omega arith)
 
 -- the test's answer

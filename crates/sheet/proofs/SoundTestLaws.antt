@@ -15,9 +15,10 @@ use Rattle.numbers.specs.Divisor.{leastDivisor}
 use Rattle.numbers.proofs.WordsLaws.{true-false}
 use Rattle.numbers.proofs.TestsLaws.{all-at, _&_, none-left, all-of, allTo-at, at-allTo, eqs, square, lower, past}
 use Rattle.numbers.proofs.DivisorLaws.{least-prime, prime-least}
+use Rattle.series.proofs.KnownLaws.{rows-known-test}
 use Rattle.hensel.specs.Factors.{IsFactors}
 use Rattle.numbers.specs.Words.{word}
-use Rattle.layout.specs.Layout.{modulus, degree, width, terms, power, root, rootsFrom, polynomial, factorRows}
+use Rattle.layout.specs.Layout.{modulus, degree, width, terms, power, root, known, lengthsFrom, polynomial, factorRows}
 use Rattle.sheet.specs.Sheet.{Sound}
 use Rattle.sheet.specs.Test.{primeTest, factorsTest, headerTest, bodyTest, soundTest}
 
@@ -85,13 +86,15 @@ module _ (s : List ℕ) where
           width-high = leb-true _ _ (all-at _ t 4);
           terms-low = leb-true _ _ (all-at _ t 5);
           terms-high = leb-true _ _ (all-at _ t 6);
-          header = eqs rootsFrom (word s) _ .0 (all-at _ t 7);
+          header = eqs lengthsFrom (word s) _ .0 (all-at _ t 7);
           long = leb-true _ _ (all-at _ t 8);
           polynomial-reduced = upto (lower (suc (degree s)) (width s) (modulus s) (polynomial s) .0 (all-at _ u 0));
           polynomial-monic = eqs (width s) _ _ .0 (all-at _ u 1);
-          factors = factors-test _ _ _ _ _ _ _ _ .0 (all-at _ u 2);
-          factors-reduced = lower (degree s) (terms s) (modulus s) (factorRows s) .0 (all-at _ u 3);
-          factors-rest = past (degree s) (terms s) (width s) (factorRows s) .0 (all-at _ u 4);
+          lengths = rows-known-test (width s) (degree s) (known s) (polynomial s) .0 (all-at _ u 2);
+          reached = eqb-true _ _ (all-at _ u 3);
+          factors = factors-test _ _ _ _ _ _ _ _ .0 (all-at _ u 4);
+          factors-reduced = lower (degree s) (terms s) (modulus s) (factorRows s) .0 (all-at _ u 5);
+          factors-rest = past (degree s) (terms s) (width s) (factorRows s) .0 (all-at _ u 6);
         },
     λ h. sound-whole (all-of (
         prime-test (modulus s) .1 (h .prime)
@@ -101,13 +104,15 @@ module _ (s : List ℕ) where
         & le-leb _ _ (h .width-high)
         & le-leb _ _ (h .terms-low)
         & le-leb _ _ (h .terms-high)
-        & eqs rootsFrom (word s) _ .1 (h .header)
+        & eqs lengthsFrom (word s) _ .1 (h .header)
         & le-leb _ _ (h .long)
         & none-left
         ))
         (all-of (
         lower (suc (degree s)) (width s) (modulus s) (polynomial s) .1 (upto-back (h .polynomial-reduced))
         & eqs (width s) _ _ .1 (h .polynomial-monic)
+        & rows-known-test (width s) (degree s) (known s) (polynomial s) .1 (h .lengths)
+        & eq-eqb _ _ (h .reached)
         & factors-test _ _ _ _ _ _ _ _ .1 (h .factors)
         & lower (degree s) (terms s) (modulus s) (factorRows s) .1 (h .factors-reduced)
         & past (degree s) (terms s) (width s) (factorRows s) .1 (h .factors-rest)

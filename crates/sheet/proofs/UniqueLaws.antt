@@ -1,7 +1,7 @@
 -- There is one sound sheet for what open was given and k.
 --   good-lists         over one p, where polynomials agree below X^(n + 1) the factor lists of good contents do ..
 --   good-polynomials   .. and the other way round
---   good-unique        good content is determined by p, D, N, k and the polynomial
+--   good-unique        good content is determined by p, D, N, k, the known lengths and the polynomial
 --   sound-unique       so the words of a sound sheet are
 --   holds-unique       two sound sheets that hold what open was given, with k terms, have the same first T words
 -- Assumes nothing.
@@ -9,19 +9,20 @@ use Prim.Native.Nat.{ℕ, suc, _+_, _-_, _≤_, _<_}
 use native.Mathlib.Nat.{lt-of-not-le}
 use native.Mathlib.Decide.{decLe}
 use native.Mathlib.Omega.{arith}
-use mathlib.Core.Path.{_≡_, sym, _∙_, ap}
+use mathlib.Core.Path.{_≡_, sym, _∙_, ap, ap₂}
 use mathlib.Core.List.{List}
 use lib.ListN.{take}
 use Rattle.algebra.proofs.SumsLaws.{sumTo-ext}
-use Rattle.numbers.specs.Words.{word}
+use Rattle.numbers.specs.Words.{word, least}
+use Rattle.numbers.proofs.WordsLaws.{least-ext}
 use Rattle.hensel.specs.Factors.{IsFactors, SameFactors, SamePolynomial}
-use Rattle.layout.specs.Layout.{modulus, degree, width, terms, end, polynomial}
+use Rattle.layout.specs.Layout.{modulus, degree, width, terms, known, end, polynomial}
 use Rattle.sheet.specs.Sheet.{Sound, Given, Holds}
 use Rattle.hensel.proofs.FactorsLaws.{factors-unique, factors-determine}
 use Rattle.hensel.proofs.BlocksLaws.{Block, locate}
 use Rattle.sheet.specs.internal.Content.{Content, contentOf}
 use Rattle.sheet.proofs.ContentLaws.{SameContent, words-same, same-size}
-use Rattle.sheet.proofs.SheetsLaws.{factorOf, Good, factor-row, sound-good, sound-words, sound-take}
+use Rattle.sheet.proofs.SheetsLaws.{factorOf, Good, good-terms, factor-row, sound-good, sound-words, sound-take}
 
 module _ (c c′ : Content) (h : Good c) (h′ : Good c′) (same-modulus : c .p ≡ c′ .p) where
   factors′ : IsFactors (c .p) (c′ .D) (c′ .k) (c′ .r) (c′ .f) (c′ .root) (c′ .power) (factorOf c′)
@@ -38,14 +39,15 @@ module _ (c c′ : Content) (h : Good c) (h′ : Good c′) (same-modulus : c .p
     good-polynomials =
         factors-determine (h .prime) n (c .k) (c′ .k) (c .D) (c′ .D) (c .r) (c′ .r) (c .f) (c′ .f) (c .root) (c′ .root) (c .power) (c′ .power) (factorOf c) (factorOf c′) (h .factors) factors′ l l′
 
-  module _ (eD : c .D ≡ c′ .D) (eN : c .N ≡ c′ .N) (ek : c .k ≡ c′ .k) (ef : (j t : ℕ) → j ≤ c .D → t < c .N → c .f j t ≡ c′ .f j t) where
+  module _ (eD : c .D ≡ c′ .D) (eN : c .N ≡ c′ .N) (ek : c .k ≡ c′ .k) (el : (j : ℕ) → j < c .D → c .known j ≡ c′ .known j)
+      (ef : (j t : ℕ) → j ≤ c .D → t < c .N → c .f j t ≡ c′ .f j t) where
     suc-n : suc (c .k - 1) ≡ c .k
     suc-n = let z = h .terms-low in omega arith
 
     lists : SameFactors (suc (c .k - 1)) (c .r) (c′ .r) (c .root) (c′ .root) (c .power) (c′ .power) (factorOf c) (factorOf c′)
     lists =
         let z = suc-n in
-        let y = h .terms-high in
+        let y = good-terms c h in
         good-lists (c .k - 1) (omega arith) (omega arith) (record { degrees = eD; columns = λ j g t v. ef j t g (omega arith) })
 
     e-factor : (i : ℕ) → i < c .r → (j : ℕ) → j < c .power i → (t : ℕ) → t < c .k → factorOf c i j t ≡ factorOf c′ i j t
@@ -72,6 +74,8 @@ module _ (c c′ : Content) (h : Good c) (h′ : Good c′) (same-modulus : c .p
       width = eN;
       terms = ek;
       count = lists .counts;
+      reach = h .reached ∙ least-ext (c .N) (c .D) (c .known) (c′ .known) el ∙ ap₂ (λ N D. least N D (c′ .known)) eN eD ∙ sym (h′ .reached);
+      lengths = el;
       roots = lists .roots;
       powers = lists .powers;
       polynomial = ef;
@@ -79,9 +83,9 @@ module _ (c c′ : Content) (h : Good c) (h′ : Good c′) (same-modulus : c .p
     }
 
 module _ (s u : List ℕ) (h : Sound s) (h′ : Sound u) (ep : modulus s ≡ modulus u) (eD : degree s ≡ degree u) (eN : width s ≡ width u) (ek : terms s ≡ terms u)
-    (ef : (j t : ℕ) → j ≤ degree s → t < width s → polynomial s j t ≡ polynomial u j t) where
+    (el : (j : ℕ) → j < degree s → known s j ≡ known u j) (ef : (j t : ℕ) → j ≤ degree s → t < width s → polynomial s j t ≡ polynomial u j t) where
   abbrev same : SameContent (contentOf s) (contentOf u)
-  same = good-unique (contentOf s) (contentOf u) (sound-good s h) (sound-good u h′) ep eD eN ek ef
+  same = good-unique (contentOf s) (contentOf u) (sound-good s h) (sound-good u h′) ep eD eN ek el ef
 
   pub sound-end : end s ≡ end u
   sound-end = same-size (contentOf s) (contentOf u) same
@@ -98,4 +102,5 @@ pub holds-unique : (g : Given) (k : ℕ) (s u : List ℕ) → Holds g k s → Ho
 holds-unique g k s u h h′ =
     let eD = h .same-degree in let eD′ = h′ .same-degree in let eN = h .same-width in let eN′ = h′ .same-width in
     sound-take-unique s u (h .sound) (h′ .sound) (h .same-modulus ∙ sym (h′ .same-modulus)) (eD ∙ sym eD′) (eN ∙ sym eN′) (h .same-terms ∙ sym (h′ .same-terms))
+    (λ j l. h .same-lengths j l ∙ sym (h′ .same-lengths j (omega arith)))
     (λ j t l v. h .same-polynomial j l t v ∙ sym (h′ .same-polynomial j (omega arith) t (omega arith)))

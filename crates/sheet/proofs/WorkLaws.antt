@@ -14,12 +14,12 @@ use mathlib.Core.Logic.{⊎-elim}
 use mathlib.Core.Bool.{Bool}
 use mathlib.Core.List.{List}
 use lib.ListN.{length, drop, length-drop}
-use lib.Seq.{getD-take, getD-drop, length-take-le}
+use lib.Seq.{length-take-le}
 use Rattle.algebra.specs.Sums.{sumTo}
 use Rattle.algebra.proofs.SumsLaws.{sumTo-ext}
 use Rattle.numbers.specs.Words.{word, tabulate, over, part}
 use Rattle.numbers.specs.internal.Facts.{AllBelow}
-use Rattle.numbers.proofs.WordsLaws.{length-tabulate, word-tabulate, over-whole}
+use Rattle.numbers.proofs.WordsLaws.{length-tabulate, word-tabulate, over-whole, word-part}
 use Rattle.rows.specs.Rows.{unit, monic}
 use Rattle.rows.proofs.RowsLaws.{by-row, row-fits}
 use Rattle.rows.proofs.MonicLaws.{monic-low, monic-top}
@@ -145,11 +145,11 @@ module _ (s : List ℕ) (h : Front s) where
         record { yes = λ e. computed new (g .yes e); no = λ e f. g .no e (fits-splits f) }
 
 -- parts of a sheet have their length
-pub pairs-long : (s pairs : List ℕ) (r : ℕ) → pairs ≡ part s rootsFrom (2 * r) → polynomialFrom r ≤ length s → length pairs ≡ 2 * r
-pairs-long s pairs r e l = ap length e ∙ length-take-le (2 * r) (drop rootsFrom s) (omega (arith, length-drop rootsFrom s))
+pub pairs-long : (s pairs : List ℕ) (r : ℕ) → pairs ≡ part s (rootsFrom (degree s)) (2 * r) → polynomialFrom (degree s) r ≤ length s → length pairs ≡ 2 * r
+pairs-long s pairs r e l = ap length e ∙ length-take-le (2 * r) (drop (rootsFrom (degree s)) s) (omega (arith, length-drop (rootsFrom (degree s)) s))
 
-pub lower-long : (s : List ℕ) → Placed s → (lower : List ℕ) → lower ≡ part s (polynomialFrom (count s)) (degree s * width s) → length lower ≡ degree s * width s
-lower-long s h lower e = ap length e ∙ length-take-le (degree s * width s) (drop (polynomialFrom (count s)) s) (omega (arith, length-drop (polynomialFrom (count s)) s, lower-within s h))
+pub lower-long : (s : List ℕ) → Placed s → (lower : List ℕ) → lower ≡ part s (polynomialFrom (degree s) (count s)) (degree s * width s) → length lower ≡ degree s * width s
+lower-long s h lower e = ap length e ∙ length-take-le (degree s * width s) (drop (polynomialFrom (degree s) (count s)) s) (omega (arith, length-drop (polynomialFrom (degree s) (count s)) s, lower-within s h))
 
 pub all-long : (s : List ℕ) → Placed s → (all : List ℕ) → all ≡ part s (factorsFrom (degree s) (width s) (count s)) (degree s * width s) → length all ≡ degree s * width s
 all-long s h all e =
@@ -157,31 +157,31 @@ all-long s h all e =
     ap length e ∙ length-take-le (degree s * width s) (drop from s) (omega (arith, length-drop from s, factors-within s h))
 
 -- the roots and powers, as they are read: two words each
-pub loaded : (s roots powers pairs : List ℕ) (r m n : ℕ) → r ≡ count s → m ≡ count s → n ≡ count s → pairs ≡ part s rootsFrom (2 * r)
+pub loaded : (s roots powers pairs : List ℕ) (r m n : ℕ) → r ≡ count s → m ≡ count s → n ≡ count s → pairs ≡ part s (rootsFrom (degree s)) (2 * r)
     → roots ≡ tabulate m (λ j. word pairs (j * 2 + 0)) → powers ≡ tabulate n (λ j. word pairs (j * 2 + 1)) → Loaded s roots powers
 loaded s roots powers pairs r m n e em en q qr qp = record {
   roots-long = ap length qr ∙ length-tabulate m _ ∙ em;
   powers-long = ap length qp ∙ length-tabulate n _ ∙ en;
-  roots-are = λ i l. ap (λ x. word x i) qr ∙ word-tabulate m _ i (omega arith) ∙ entry i 0 l (omega arith) ∙ ap (word s) (let z : rootsFrom + 2 * i + 0 ≡ rootsFrom + 2 * i = omega arith in z);
+  roots-are = λ i l. ap (λ x. word x i) qr ∙ word-tabulate m _ i (omega arith) ∙ entry i 0 l (omega arith) ∙ ap (word s) (let z : rootsFrom (degree s) + 2 * i + 0 ≡ rootsFrom (degree s) + 2 * i = omega arith in z);
   powers-are = λ i l. ap (λ x. word x i) qp ∙ word-tabulate n _ i (omega arith) ∙ entry i 1 l (omega arith);
 }
   where
-    entry : (i t : ℕ) → i < count s → t < 2 → word pairs (i * 2 + t) ≡ word s (rootsFrom + 2 * i + t)
+    entry : (i t : ℕ) → i < count s → t < 2 → word pairs (i * 2 + t) ≡ word s (rootsFrom (degree s) + 2 * i + t)
     entry i t l g =
-        ap (λ x. word x (i * 2 + t)) q ∙ getD-take (2 * r) (drop rootsFrom s) (i * 2 + t) 0 (omega arith) ∙ getD-drop rootsFrom s (i * 2 + t) 0
-        ∙ ap (word s) (let z : rootsFrom + (i * 2 + t) ≡ rootsFrom + 2 * i + t = omega arith in z)
+        ap (λ x. word x (i * 2 + t)) q ∙ word-part s (rootsFrom (degree s)) (2 * r) (i * 2 + t) (omega arith)
+        ∙ ap (word s) (let z : rootsFrom (degree s) + (i * 2 + t) ≡ rootsFrom (degree s) + 2 * i + t = omega arith in z)
 
 -- the polynomial's rows below Y^D, copied
-pub lower-rows : (s : List ℕ) → Placed s → (lower old new : List ℕ) → length old ≡ degree s * width s → lower ≡ part s (polynomialFrom (count s)) (degree s * width s)
+pub lower-rows : (s : List ℕ) → Placed s → (lower old new : List ℕ) → length old ≡ degree s * width s → lower ≡ part s (polynomialFrom (degree s) (count s)) (degree s * width s)
     → new ≡ over lower old → LowerRows s new
 lower-rows s h lower old new n e q =
     let size = degree s * width s in
-    let from = polynomialFrom (count s) in
+    let from = polynomialFrom (degree s) (count s) in
     let long = lower-long s h lower e in
     let w : new ≡ part s from size = q ∙ over-whole lower old (long ∙ sym n) ∙ e in
     record {
       long = ap length w ∙ sym (ap length e) ∙ long;
       are = λ j l t g.
-          ap (λ x. word x (j * width s + t)) w ∙ getD-take size (drop from s) (j * width s + t) 0 (omega (arith, row-fits j (degree s) (width s) l)) ∙ getD-drop from s (j * width s + t) 0
+          ap (λ x. word x (j * width s + t)) w ∙ word-part s from size (j * width s + t) (omega (arith, row-fits j (degree s) (width s) l))
           ∙ ap (word s) (omega arith);
     }

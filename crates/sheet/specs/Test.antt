@@ -10,12 +10,13 @@ use mathlib.Core.List.{List, [], _∷_}
 use lib.Dec.{leb, ltb, eqb}
 use lib.ListN.{length}
 use Rattle.algebra.specs.Sums.{sumTo}
-use Rattle.numbers.specs.Words.{word, allTo, all}
+use Rattle.numbers.specs.Words.{word, allTo, all, least}
 use Rattle.numbers.specs.Divisor.{leastDivisor}
 use Rattle.numbers.specs.Limits.{largestModulus, largestDegree, largestWidth}
+use Rattle.series.specs.Known.{rowsKnown}
 use Rattle.rows.specs.Rows.{unit, monic}
 use Rattle.hensel.specs.Factors.{product, split, rootPower}
-use Rattle.layout.specs.Layout.{modulus, degree, width, terms, count, rootsFrom, headerOf, root, power, end, polynomial, factorRows, factor}
+use Rattle.layout.specs.Layout.{modulus, degree, width, terms, count, reach, known, lengthsFrom, headerOf, root, power, end, polynomial, factorRows, factor}
 
 unfoldable pub primeTest : ℕ → Bool
 primeTest p = all (leb 2 p ∷ eqb (leastDivisor p) p ∷ [])
@@ -42,8 +43,8 @@ headerTest s =
     ∷ leb (degree s) largestDegree
     ∷ leb (width s) largestWidth
     ∷ leb 1 (terms s)
-    ∷ leb (terms s) (width s)
-    ∷ allTo rootsFrom (λ i. eqb (word s i) (word (headerOf (modulus s) (degree s) (width s) (terms s) (count s)) i))
+    ∷ leb (terms s) (reach s)
+    ∷ allTo lengthsFrom (λ i. eqb (word s i) (word (headerOf (modulus s) (degree s) (width s) (terms s) (count s) (reach s)) i))
     ∷ leb (end s) (length s)
     ∷ []
     )
@@ -53,6 +54,8 @@ bodyTest s =
     all (
     allTo (suc (degree s)) (λ j. allTo (width s) (λ t. ltb (polynomial s j t) (modulus s)))
     ∷ allTo (width s) (λ t. eqb (polynomial s (degree s) t) (unit t))
+    ∷ rowsKnown (width s) (degree s) (known s) (polynomial s)
+    ∷ eqb (reach s) (least (width s) (degree s) (known s))
     ∷ factorsTest (modulus s) (degree s) (terms s) (count s) (polynomial s) (root s) (power s) (factor s)
     ∷ allTo (degree s) (λ j. allTo (terms s) (λ t. ltb (factorRows s j t) (modulus s)))
     ∷ allTo (degree s) (λ j. allTo (width s - terms s) (λ t. eqb (factorRows s j (terms s + t)) 0))

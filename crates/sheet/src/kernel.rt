@@ -9,13 +9,13 @@ ghost use mathlib.Core.Path.{_≡_};
 ghost use mathlib.Core.Bool.{true};
 ghost use Prim.Native.Nat.{ℕ, _+_, _*_, _≤_, _<_};
 ghost use lib.ListN.{length};
-ghost use Rattle.numbers.specs.Words.{word};
+ghost use Rattle.numbers.specs.Words.{word, upTo};
 ghost use Rattle.numbers.specs.internal.Facts.{Decides};
 ghost use Rattle.numbers.specs.Limits.{largestDegree, largestWidth};
 ghost use Rattle.layout.specs.Layout.{degree, width, terms, count};
 ghost use Rattle.sheet.specs.Sheet.{Sound};
 ghost use Rattle.front.specs.internal.Front.{Front};
-ghost use Rattle.sheet.specs.internal.Stages.{Loaded, Computed, WorkedOut, SameTerms, upTo};
+ghost use Rattle.sheet.specs.internal.Stages.{Loaded, Computed, WorkedOut, SameTerms};
 
 // The roots and the powers that the sheet lists.
 fn load_roots(s: &[u32], roots: &mut [u32], powers: &mut [u32])

@@ -18,9 +18,9 @@ use Rattle.algebra.proofs.FpLaws.{p-pos, Fp-field}
 use Rattle.algebra.proofs.BridgeLaws.{rem-zero, rem-one, same-rem}
 use Rattle.numbers.specs.Words.{word, tabulate}
 use Rattle.numbers.specs.internal.Facts.{AllBelow}
-use Rattle.numbers.proofs.WordsLaws.{lt-or-ge, length-tabulate, word-tabulate, from, from-is, length-from}
+use Rattle.numbers.proofs.WordsLaws.{lt-or-ge, length-tabulate, word-tabulate, from, from-is, length-from, take-below}
 use Rattle.columns.specs.internal.Column.{hornerWords, ColumnStored}
-use Rattle.columns.proofs.ColumnLaws.{putFrom, take-below, horner-words-at}
+use Rattle.columns.proofs.ColumnLaws.{putFrom, horner-words-at}
 use Rattle.columns.proofs.SolveLaws.{horner-poly}
 use Rattle.algebra.proofs.SolutionLaws.{lines-zero, lines-suc, lines-below, lines-top}
 use Rattle.numbers.specs.Limits.{mostRows}

@@ -21,12 +21,12 @@ use Rattle.algebra.proofs.FpLaws.{p-pos}
 use Rattle.algebra.proofs.BridgeLaws.{same-rem, rem-zero, rem-one}
 use Rattle.numbers.specs.Words.{word}
 use Rattle.numbers.specs.internal.Facts.{AllBelow}
-use Rattle.numbers.proofs.WordsLaws.{lt-or-ge, from, from-is, drop-below}
+use Rattle.numbers.proofs.WordsLaws.{lt-or-ge, from, from-is, drop-below, take-below}
 use Rattle.rows.specs.Rows.{mul, linePower, unit, monic}
 use Rattle.rows.proofs.RowsLaws.{line-lt, row-fits}
 use Rattle.rows.proofs.MulLaws.{mul-rem, mul-ext}
 use Rattle.rows.proofs.MonicLaws.{monic-low, monic-top, monic-above, monic-ext, by-place}
-use Rattle.columns.proofs.ColumnLaws.{putFrom, take-below}
+use Rattle.columns.proofs.ColumnLaws.{putFrom}
 use Rattle.hensel.proofs.FactorsLaws.{monic-rem}
 use Rattle.algebra.proofs.SolutionLaws.{lines-ext, lines-append, lines-same, lines-below, lines-top}
 use Rattle.rows.proofs.ShiftLaws.{root-power}

@@ -4,13 +4,15 @@ use native.Mathlib.Omega.{arith}
 use mathlib.Core.Path.{_≡_, refl}
 use Rattle.algebra.specs.Sums.{sumTo}
 use Rattle.numbers.specs.Limits.{largestModulus}
-use Rattle.numbers.specs.Words.{outside, firstWhere, firstNonzero, firstLarge, allTo, all, tabulate}
+use Rattle.numbers.specs.Words.{outside, firstWhere, firstNonzero, firstLarge, allTo, all, tabulate, least}
 use Rattle.numbers.specs.Divisor.{leastDivisor, inverseOf}
 use Rattle.numbers.specs.Refusals.{check, refusal, judge, modulusChecks}
 use Rattle.numbers.specs.declared.refusal.Verdict.the-variants.{Pass, Refuse}
 use Rattle.numbers.proofs.DivisorLaws.{least-is, trial-none, trial-prime}
 use Rattle.numbers.proofs.RefusalsLaws.{take-check, modulus-fine, modulus-composite}
-use Rattle.series.specs.Series.{quotientColumn, quotient}
+use Rattle.series.specs.Known.{knownTo, rowsKnown}
+use Rattle.series.specs.Series.{sums, productColumn, quotientColumn, quotient}
+use Rattle.series.specs.Series as series
 use Rattle.series.specs.Quotient.{quotientWords}
 use Rattle.rows.specs.Rows.{rowsOf, rowsBelow, mul, linePower, monic}
 use Rattle.pair.specs.Pair.{orderOf}
@@ -39,5 +41,5 @@ out-of-range : judge (modulusChecks 16777216) ≡ Refuse (refusal 1 0)
 out-of-range = take-check (check 1 (outside 2 largestModulus 16777216) 0) _ refl
 
 pub starred : Starred
-unfolding judge leastDivisor inverseOf firstWhere firstNonzero firstLarge allTo all sumTo rowsOf mul monic orderOf rowsBelow productTest pairTest held linePower product primeTest factorsTest headerTest bodyTest soundTest upwards choices find splitsTest powersOf needed openVerdict extendVerdict number isWide fieldsFrom fieldSize field jobGiven listVerdict listingText headLine rootLine rowLine rowLines factorText joinTo tabulate quotientColumn quotient quotientWords digits digitsWithin numbersText moreNumbers
-starred = (refl, refl, refl, refl, refl, refl, refl, refl, refl, refl, refl, refl, refl, refl, refl, refl, refl, refl, refl, refl, refl, refl, refl, refl, refl, refl, refl, largest-prime, largest-composite, out-of-range, refl, refl, refl, refl, refl, refl, refl, refl, refl, refl, refl, refl, refl, refl)
+unfolding judge leastDivisor inverseOf firstWhere firstNonzero firstLarge allTo all sumTo rowsOf mul monic orderOf rowsBelow productTest pairTest held linePower product primeTest factorsTest headerTest bodyTest soundTest upwards choices find splitsTest powersOf needed openVerdict extendVerdict number isWide fieldsFrom fieldSize field jobGiven listVerdict listingText headLine rootLine rowLine rowLines factorText joinTo tabulate least knownTo rowsKnown sums productColumn series.product quotientColumn quotient quotientWords digits digitsWithin numbersText moreNumbers
+starred = (refl, refl, refl, refl, refl, refl, refl, refl, refl, refl, refl, refl, refl, refl, refl, refl, refl, refl, refl, refl, refl, refl, refl, refl, refl, refl, refl, largest-prime, largest-composite, out-of-range, refl, refl, refl, refl, refl, refl, refl, refl, refl, refl, refl, refl, refl, refl, refl, refl, refl, refl, refl, refl, refl, refl, refl, refl, refl, refl)

@@ -13,10 +13,11 @@ use Rattle.numbers.specs.Words.{word, tabulate}
 use Rattle.numbers.specs.Refusals.{judge, operationChecks, inputChecks}
 use Rattle.numbers.specs.One.{TheOne}
 use Rattle.numbers.specs.declared.refusal.Verdict.the-variants.{Pass}
-use Rattle.numbers.proofs.WordsLaws.{word-tabulate, tabulate-ext}
+use Rattle.numbers.proofs.WordsLaws.{word-tabulate, tabulate-ext, least-at, least-there}
 use Rattle.numbers.proofs.RefusalsLaws.{operation-pass, inputs-pass, pass-parts, pass-check, reduced, below-reduced}
 use Rattle.series.specs.Series.{IsSeries, inverseChecks, productColumn, product, quotient}
-use Rattle.series.proofs.SeriesLaws.{length-quotient, quotient-below}
+use Rattle.series.proofs.SeriesLaws.{sums-whole, product-whole, length-quotient, quotient-below}
+use Rattle.series.proofs.KnownLaws.{known-test, sums-known, product-known}
 use Rattle.series.proofs.QuotientLaws.{inverse-law, quotient-product, quotient-unique}
 use Rattle.series.proofs.DividedLaws.{unit-least, unit-words, unit-checks, product-least, passed-one, divided-one}
 use Rattle.rows.specs.Rows.{unit}
@@ -30,10 +31,11 @@ use Rattle.open.proofs.OpenTotalLaws.{opened-one}
 use Rattle.extend.proofs.ExtendTotalLaws.{extended-one}
 use Rattle.calls.proofs.Demand3Laws.{demand3}
 use Rattle.calls.proofs.OneLaws.{run-one, count-largest, replayed-one}
+use Rattle.calls.proofs.FillingLaws.{filled-opens, filled-same, filled-own, filled-apart}
 use Rattle.job.specs.Limits.{jobRoom}
 use Rattle.job.proofs.JobLaws.{narrow-reads}
 use Rattle.listing.proofs.ListingLaws.{one-listing, listed-only, listing-cut}
-use Rattle.theorems.specs.Theorems.{PairTheorems, SheetTheorems, CallTheorems, RowTheorems, Theorems}
+use Rattle.theorems.specs.Theorems.{PairTheorems, SheetTheorems, CallTheorems, KnownTheorems, RowTheorems, Theorems}
 
 pair-theorems : PairTheorems
 pair-theorems = record {
@@ -66,9 +68,23 @@ call-theorems = record {
   listing-cut = λ job text h x. listing-cut job text jobRoom (omega arith) h x;
 }
 
+known-theorems : KnownTheorems
+known-theorems = record {
+  known-test = known-test;
+  reach-least = λ g. least-at (g .N) (word (g .lengths)) (g .D);
+  reach-there = λ g. least-there (g .N) (word (g .lengths)) (g .D);
+  filled-opens = filled-opens;
+  filled-same = filled-same;
+  filled-own = filled-own;
+  filled-apart = filled-apart;
+  sum-known = sums-known;
+  product-known = product-known;
+  sum-whole = sums-whole;
+  product-whole = product-whole;
+}
+
 -- the inverse: the quotient of 1, by a divisor that does not begin with 0
-the-inverse : (p N : ℕ) (g : List ℕ) → judge (inverseChecks p N g N) ≡ Pass → TheOne (λ h. IsSeries p N h × (product p N h g ≡ tabulate N unit)) (quotient p N (1 ∷ []) g)
-unfolding product
+the-inverse : (p N : ℕ) (g : List ℕ) → judge (inverseChecks p N g N) ≡ Pass → TheOne (λ h. IsSeries p N h × (product p N h N g N ≡ tabulate N unit)) (quotient p N (1 ∷ []) g)
 the-inverse p N g e =
     let m = pass-parts (operationChecks p N g 1 [] 0 1 N) _ e in
     let o = operation-pass p N g 1 [] 0 1 N (m .0) .inputs in
@@ -78,10 +94,10 @@ the-inverse p N g e =
     record {
       is = (
         (length-quotient p N (1 ∷ []) g, below-reduced p _ (quotient-below p (p-pos prime) N (1 ∷ []) g)),
-        tabulate-ext N _ unit (λ t u. quotient-product prime (1 ∷ []) g one (o .f-below) first N t u ∙ sym (one-word t)),
+        product-whole p N (quotient p N (1 ∷ []) g) g ∙ tabulate-ext N _ unit (λ t u. quotient-product prime (1 ∷ []) g one (o .f-below) first N t u ∙ sym (one-word t)),
       );
       only = λ h x. quotient-unique prime (1 ∷ []) g one (o .f-below) first N h (x .0 .0) (reduced p h (x .0 .1))
-          (λ t u. sym (word-tabulate N (productColumn p h g) t u) ∙ ap (λ s. word s t) (x .1) ∙ word-tabulate N unit t u ∙ one-word t);
+          (λ t u. sym (word-tabulate N (productColumn p h g) t u) ∙ ap (λ s. word s t) (sym (product-whole p N h g) ∙ x .1) ∙ word-tabulate N unit t u ∙ one-word t);
     }
   where
     one-word : (t : ℕ) → unit t ≡ word (1 ∷ []) t
@@ -104,4 +120,4 @@ row-theorems = record {
 }
 
 pub theorems : Theorems
-theorems = (pair-theorems, sheet-theorems, call-theorems, row-theorems)
+theorems = (pair-theorems, sheet-theorems, call-theorems, known-theorems, row-theorems)

@@ -1,4 +1,4 @@
--- The starred examples of document 01 with the moduli and the wide file of F-2 and the quotients of F-5, as one list: closed terms of the definitions that
+-- The starred examples of document 01 with the moduli and the wide file of F-2, the quotients of F-5 and the lengths of F-9, as one list: closed terms of the definitions that
 -- the contracts cite. `starred` in proofs/StarredLaws is its proof: by evaluation, but for the moduli near 2^24, where laws say how little has to be
 -- evaluated.
 --   Starred    the list
@@ -10,34 +10,41 @@ use mathlib.Core.List.{List, [], _∷_, _++_}
 use mathlib.Core.Option.{some}
 use Rattle.numbers.specs.Refusals.{judge, refusal, modulusChecks}
 use Rattle.numbers.specs.declared.refusal.Verdict.the-variants.{Pass, Refuse}
+use Rattle.series.specs.Series.{knownChecks, sums, product}
 use Rattle.series.specs.Quotient.{leastPower, quotientChecks, quotientWords}
 use Rattle.pair.specs.Pair.{order}
 use Rattle.pair.specs.Paired.{pairChecks}
 use Rattle.pair.specs.Test.{pairTest}
 use Rattle.sheet.specs.Test.{soundTest}
-use Rattle.sheet.specs.Sheet.{Given, givenOf}
+use Rattle.sheet.specs.Sheet.{Given, givenOf, wholeOf, given-reach}
 use Rattle.open.specs.Open.{powersOf, needed, openVerdict}
 use Rattle.extend.specs.Extend.{extendVerdict}
 use Rattle.text.specs.Text.{bytes, listingText}
 use Rattle.listing.specs.Listing.{jobGiven, listVerdict}
 
--- Y² − 1 − X over 7, three terms; its sheet with k terms and these factor rows
+-- Y² − 1 − X over 7, three terms; its sheet with k terms and these factor rows, row 0 known to m terms
+abbrev job-rows : List ℕ
+job-rows = 6 ∷ 6 ∷ 0 ∷ 0 ∷ 0 ∷ 0 ∷ 1 ∷ 0 ∷ 0 ∷ []
+
 abbrev job : Given
-job = givenOf 7 2 3 (6 ∷ 6 ∷ 0 ∷ 0 ∷ 0 ∷ 0 ∷ 1 ∷ 0 ∷ 0 ∷ []) (1 ∷ 6 ∷ [])
+job = wholeOf 7 2 3 job-rows (1 ∷ 6 ∷ [])
+
+abbrev known-sheet : (m k : ℕ) → List ℕ → List ℕ
+known-sheet m k factors = 7 ∷ 2 ∷ 3 ∷ k ∷ 2 ∷ 13 ∷ 17 ∷ 26 ∷ 32 ∷ 32 ∷ m ∷ m ∷ 3 ∷ 1 ∷ 1 ∷ 6 ∷ 1 ∷ 6 ∷ 6 ∷ 0 ∷ 0 ∷ 0 ∷ 0 ∷ 1 ∷ 0 ∷ 0 ∷ factors
 
 abbrev job-sheet : ℕ → List ℕ → List ℕ
-job-sheet k factors = 7 ∷ 2 ∷ 3 ∷ k ∷ 2 ∷ 10 ∷ 14 ∷ 23 ∷ 29 ∷ 29 ∷ 1 ∷ 1 ∷ 6 ∷ 1 ∷ 6 ∷ 6 ∷ 0 ∷ 0 ∷ 0 ∷ 0 ∷ 1 ∷ 0 ∷ 0 ∷ factors
+job-sheet = known-sheet 3
 
 -- Y³ + Y² + XY + X over 2, two terms
 abbrev double : Given
-double = givenOf 2 3 2 (0 ∷ 1 ∷ 0 ∷ 1 ∷ 1 ∷ 0 ∷ 1 ∷ 0 ∷ []) (0 ∷ 1 ∷ [])
+double = wholeOf 2 3 2 (0 ∷ 1 ∷ 0 ∷ 1 ∷ 1 ∷ 0 ∷ 1 ∷ 0 ∷ []) (0 ∷ 1 ∷ [])
 
 abbrev double-sheet : List ℕ
-double-sheet = 2 ∷ 3 ∷ 2 ∷ 2 ∷ 2 ∷ 10 ∷ 14 ∷ 22 ∷ 28 ∷ 28 ∷ 0 ∷ 2 ∷ 1 ∷ 1 ∷ 0 ∷ 1 ∷ 0 ∷ 1 ∷ 1 ∷ 0 ∷ 1 ∷ 0 ∷ 0 ∷ 1 ∷ 0 ∷ 0 ∷ 1 ∷ 0 ∷ []
+double-sheet = 2 ∷ 3 ∷ 2 ∷ 2 ∷ 2 ∷ 14 ∷ 18 ∷ 26 ∷ 32 ∷ 32 ∷ 2 ∷ 2 ∷ 2 ∷ 2 ∷ 0 ∷ 2 ∷ 1 ∷ 1 ∷ 0 ∷ 1 ∷ 0 ∷ 1 ∷ 1 ∷ 0 ∷ 1 ∷ 0 ∷ 0 ∷ 1 ∷ 0 ∷ 0 ∷ 1 ∷ 0 ∷ []
 
 -- Y² − 1 over 7 with the root 1 alone
 abbrev alone : Given
-alone = givenOf 7 2 1 (6 ∷ 0 ∷ 1 ∷ []) (1 ∷ [])
+alone = wholeOf 7 2 1 (6 ∷ 0 ∷ 1 ∷ []) (1 ∷ [])
 
 -- X + Y + Y², four terms; 2Y + X, two; 1 + Y, one: all over 5
 abbrev pair1 : List ℕ
@@ -69,9 +76,9 @@ job-text = bytes "mod 7 terms 3 degree 2 factors 2\nroot 1 power 1\nY^0: 6 3 1\n
 
 abbrev pub Starred : Type 0
 Starred =
-    -- the job: its sheet has T = 29 words; with three terms the factors have the rows 6 3 1 and 1 4 6
-    (openVerdict job 29 ≡ Pass)
-    × (needed job ≡ 29)
+    -- the job: its sheet has T = 32 words; with three terms the factors have the rows 6 3 1 and 1 4 6
+    (openVerdict job 32 ≡ Pass)
+    × (needed job ≡ 32)
     × (soundTest (job-sheet 3 (6 ∷ 3 ∷ 1 ∷ 1 ∷ 4 ∷ 6 ∷ [])) ≡ true)
     -- as a file of either kind it is read to that job and passes; the listing of its sheet is the text, byte for byte
     × (jobGiven job-file ≡ job)
@@ -80,7 +87,7 @@ Starred =
     × (listVerdict wide-file ≡ Pass)
     × (listingText (job-sheet 3 (6 ∷ 3 ∷ 1 ∷ 1 ∷ 4 ∷ 6 ∷ [])) ≡ job-text)
     -- p = 2: the factor of root 0 has power 2, rows 0 1 and 0 0; the factor of root 1 has row 1 0
-    × (openVerdict double 28 ≡ Pass)
+    × (openVerdict double 32 ≡ Pass)
     × (powersOf double ≡ some (2 ∷ 1 ∷ []))
     × (soundTest double-sheet ≡ true)
     -- p = 5, N = 4, X + Y + Y²: order 1, b_0 = 0 1 1 2, c_0 = 1 4 4 3, c_1 = 1 0 0 0
@@ -126,3 +133,17 @@ Starred =
     × (judge (quotientChecks 7 3 (0 ∷ 0 ∷ 0 ∷ []) (0 ∷ 0 ∷ 0 ∷ []) 3) ≡ Refuse (refusal 12 0))
     × (judge (quotientChecks 7 3 (0 ∷ 1 ∷ 0 ∷ []) (0 ∷ 0 ∷ 0 ∷ []) 3) ≡ Refuse (refusal 12 0))
     × (judge (quotientChecks 7 3 (1 ∷ 0 ∷ 0 ∷ []) (0 ∷ 1 ∷ 0 ∷ []) 3) ≡ Refuse (refusal 12 0))
+    -- the job with row 0 known to two terms: it can be worked to two, and not to three; known to one, its second word should be 0: 21
+    × (openVerdict (givenOf 7 2 3 job-rows (2 ∷ 3 ∷ []) (1 ∷ 6 ∷ [])) 32 ≡ Pass)
+    × (given-reach (givenOf 7 2 3 job-rows (2 ∷ 3 ∷ []) (1 ∷ 6 ∷ [])) ≡ 2)
+    × (soundTest (known-sheet 2 2 (6 ∷ 3 ∷ 0 ∷ 1 ∷ 4 ∷ 0 ∷ [])) ≡ true)
+    × (extendVerdict (known-sheet 2 1 (6 ∷ 0 ∷ 0 ∷ 1 ∷ 0 ∷ 0 ∷ [])) 2 ≡ Pass)
+    × (extendVerdict (known-sheet 2 1 (6 ∷ 0 ∷ 0 ∷ 1 ∷ 0 ∷ 0 ∷ [])) 3 ≡ Refuse (refusal 14 0))
+    × (openVerdict (givenOf 7 2 3 job-rows (1 ∷ 3 ∷ []) (1 ∷ 6 ∷ [])) 32 ≡ Refuse (refusal 21 0))
+    -- p = 7, N = 3: 1 + 2X, known to two terms, and 3 + 2X + X²: two terms of the sum and of the product are known; a count of 0 or of 4 is 21
+    × (sums 7 3 (1 ∷ 2 ∷ 0 ∷ []) 2 (3 ∷ 2 ∷ 1 ∷ []) 3 ≡ 4 ∷ 4 ∷ 0 ∷ [])
+    × (product 7 3 (1 ∷ 2 ∷ 0 ∷ []) 2 (3 ∷ 2 ∷ 1 ∷ []) 3 ≡ 3 ∷ 1 ∷ 0 ∷ [])
+    × (judge (knownChecks 7 3 (1 ∷ 2 ∷ 0 ∷ []) 2 (3 ∷ 2 ∷ 1 ∷ []) 3 3) ≡ Pass)
+    × (judge (knownChecks 7 3 (1 ∷ 2 ∷ 0 ∷ []) 2 (3 ∷ 2 ∷ 1 ∷ []) 2 3) ≡ Refuse (refusal 21 0))
+    × (judge (knownChecks 7 3 (0 ∷ 0 ∷ 0 ∷ []) 0 (3 ∷ 2 ∷ 1 ∷ []) 3 3) ≡ Refuse (refusal 21 0))
+    × (judge (knownChecks 7 3 (1 ∷ 2 ∷ 0 ∷ []) 4 (3 ∷ 2 ∷ 1 ∷ []) 3 3) ≡ Refuse (refusal 21 0))

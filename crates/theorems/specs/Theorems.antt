@@ -1,5 +1,5 @@
 -- The end theorems, in a row: what is promised of the calls, each with one plain sentence. `theorems` in proofs/TheoremsLaws proves them all.
---   PairTheorems, SheetTheorems, CallTheorems, RowTheorems, Theorems   the theorems, and all of them
+--   PairTheorems, SheetTheorems, CallTheorems, KnownTheorems, RowTheorems, Theorems   the theorems, and all of them
 -- Assumes nothing.
 use Prim.Native.Nat.{ℕ, _+_, _-_, _*_, _%_, _≤_, _<_}
 use mathlib.Core.Path.{_≡_}
@@ -13,7 +13,8 @@ use Rattle.numbers.specs.Divisor.{inverseOf}
 use Rattle.numbers.specs.Refusals.{judge, Outcome, accepted}
 use Rattle.numbers.specs.One.{TheOne, One, OneOutcome}
 use Rattle.numbers.specs.declared.refusal.Verdict.the-variants.{Pass}
-use Rattle.series.specs.Series.{IsSeries, seriesChecks, inverseChecks, product, quotient}
+use Rattle.series.specs.Known.{KnownTo, knownTo}
+use Rattle.series.specs.Series.{IsSeries, seriesChecks, inverseChecks, sums, productColumn, product, quotient}
 use Rattle.series.specs.Quotient.{leastPower, quotientChecks, IsQuotient, Divided, quotientWords}
 use Rattle.rows.specs.Rows.{shiftChecks, rowProduct, rowShift, unit}
 use Rattle.pair.specs.Pair.{order, PairWords}
@@ -25,6 +26,7 @@ use Rattle.open.specs.Open.{needed, openVerdict, Opened}
 use Rattle.extend.specs.Extend.{Extended}
 use Rattle.calls.specs.Calls.{Call, Run, Lendable, countAnswers, countTerms, largestAccepted, Demand3}
 use Rattle.calls.specs.Replay.{Replayed}
+use Rattle.calls.specs.Filling.{filled, Fills, SameFilled, OwnFilled, ApartFilled}
 use Rattle.job.specs.Limits.{jobRoom}
 use Rattle.job.specs.Job.{place, field}
 use Rattle.listing.specs.Listing.{IsListing, Listed}
@@ -72,6 +74,30 @@ pub record CallTheorems : Type 0 where
   -- Of a longer file the program reads the first `jobRoom` bytes, and these come to the same text.
   pub listing-cut : (job text : List ℕ) → jobRoom ≤ length job → IsListing (take jobRoom job) text → IsListing job text
 
+-- What is known to fewer terms than N.
+pub record KnownTheorems : Type 0 where
+  -- The test behind refusal 21 is the condition that a sound sheet's rows keep.
+  pub known-test : (N n : ℕ) (s : ℕ → ℕ) → (knownTo N n s ≡ true) ↔ KnownTo N n s
+  -- The most terms that a sheet can have is the least of the known lengths: no more than any, and N or one of them.
+  pub reach-least : (g : Given) (j : ℕ) → j < g .D → given-reach g ≤ word (g .lengths) j
+  pub reach-there : (g : Given) → given-reach g < g .N → (j : ℕ) × (j < g .D) × (word (g .lengths) j ≡ given-reach g)
+  -- Unknown entries may be filled in by any numbers below p: open accepts the polynomial still.
+  pub filled-opens : (g : Given) (rows : List ℕ) → openVerdict g (needed g) ≡ Pass → Fills g rows → openVerdict (filled g rows) (needed (filled g rows)) ≡ Pass
+  -- Every way of filling them in gives the same factors below the least known length ..
+  pub filled-same : (g : Given) → SameFilled g
+  -- .. which are those of the sheet itself.
+  pub filled-own : (g : Given) → OwnFilled g
+  -- Where the least known length is less than N, some two ways give factors that differ at the next column.
+  pub filled-apart : (g : Given) → openVerdict g (needed g) ≡ Pass → given-reach g < g .N → ApartFilled g
+  -- Words past the counts of known terms have no part in a sum or a product.
+  pub sum-known : (p N : ℕ) (g g′ : List ℕ) (a : ℕ) (h h′ : List ℕ) (b : ℕ) → ((t : ℕ) → t < a → word g t ≡ word g′ t) → ((t : ℕ) → t < b → word h t ≡ word h′ t)
+      → sums p N g a h b ≡ sums p N g′ a h′ b
+  pub product-known : (p N : ℕ) (g g′ : List ℕ) (a : ℕ) (h h′ : List ℕ) (b : ℕ) → ((t : ℕ) → t < a → word g t ≡ word g′ t) → ((t : ℕ) → t < b → word h t ≡ word h′ t)
+      → product p N g a h b ≡ product p N g′ a h′ b
+  -- With all N terms known they are as in document 01.
+  pub sum-whole : (p N : ℕ) (g h : List ℕ) → sums p N g N h N ≡ tabulate N (λ t. (word g t + word h t) % p)
+  pub product-whole : (p N : ℕ) (g h : List ℕ) → product p N g N h N ≡ tabulate N (productColumn p g h)
+
 -- Numbers, series and row polynomials.
 pub record RowTheorems : Type 0 where
   -- The inverse modulo a prime is one.
@@ -84,9 +110,9 @@ pub record RowTheorems : Type 0 where
   pub quotient-whole : (p N : ℕ) (f g : List ℕ) (room : ℕ) → 1 ≤ N → word g 0 ≢ 0
       → (judge (quotientChecks p N f g room) ≡ judge (seriesChecks p N f g room)) × (N - leastPower g ≡ N) × (quotientWords p N f g ≡ quotient p N f g)
   -- A dividend of lower least power is no product with the divisor.
-  pub quotient-none : (p N : ℕ) (f g h : List ℕ) → length g ≡ N → leastPower f < leastPower g → product p N h g ≢ f
+  pub quotient-none : (p N : ℕ) (f g h : List ℕ) → length g ≡ N → leastPower f < leastPower g → product p N h N g N ≢ f
   -- The inverse is the one series whose product with g is 1.
-  pub inverse-one : (p N : ℕ) (g : List ℕ) → judge (inverseChecks p N g N) ≡ Pass → TheOne (λ h. IsSeries p N h × (product p N h g ≡ tabulate N unit)) (quotient p N (1 ∷ []) g)
+  pub inverse-one : (p N : ℕ) (g : List ℕ) → judge (inverseChecks p N g N) ≡ Pass → TheOne (λ h. IsSeries p N h × (product p N h N g N ≡ tabulate N unit)) (quotient p N (1 ∷ []) g)
   -- A shift by c is undone by the shift by p − c.
   pub shift-back : (p D N : ℕ) (f : List ℕ) (c : ℕ) → judge (shiftChecks p D N f c ((D + 1) * N)) ≡ Pass → rowShift p D N (rowShift p D N f c) ((p - c) % p) ≡ f
   -- The shift of a product is the product of the shifts.
@@ -94,4 +120,4 @@ pub record RowTheorems : Type 0 where
       → rowShift p (D₁ + D₂) N (rowProduct p D₁ D₂ N f g) c ≡ rowProduct p D₁ D₂ N (rowShift p D₁ N f c) (rowShift p D₂ N g c)
 
 abbrev pub Theorems : Type 0
-Theorems = PairTheorems × SheetTheorems × CallTheorems × RowTheorems
+Theorems = PairTheorems × SheetTheorems × CallTheorems × KnownTheorems × RowTheorems

@@ -11,12 +11,12 @@ use Rattle.algebra.specs.Sums.{sumTo}
 use Rattle.algebra.proofs.SumsLaws.{sumTo-zero, sumTo-suc, sumTo-ext, sumTo-bound}
 use Rattle.numbers.specs.Words.{word, tabulate}
 use Rattle.numbers.specs.internal.Facts.{AllBelow}
-use Rattle.numbers.proofs.WordsLaws.{lt-or-ge, length-tabulate, word-tabulate, tabulate-ext, Writing, writing-none, writing-past, writing-part, from, word-from}
+use Rattle.numbers.proofs.WordsLaws.{lt-or-ge, length-tabulate, word-tabulate, tabulate-ext, Writing, writing-none, writing-past, writing-part, from, word-from, word-part}
 use Rattle.numbers.specs.internal.Limits.{modulusBound}
 use Rattle.numbers.specs.Limits.{largestWidth}
 use Rattle.series.proofs.SeriesLaws.{word-below}
 use Rattle.rows.proofs.RowsLaws.{length-part, writing-whole, row-fits}
-use lib.Seq.{ext-getD, getD-take, getD-drop, getD-set-same, getD-set-other}
+use lib.Seq.{ext-getD, getD-set-same, getD-set-other}
 use Rattle.tiles.specs.internal.Tile.{tileStep, tileAdd, tileSum, tileAt, tileRow, TileReady, TilePut}
 
 pub word-fits : (x y : ℕ) → x < modulusBound → y < modulusBound → x * y ≤ 281474943156225
@@ -128,7 +128,7 @@ block-sums t width b l y tiles a₀ a h q =
 
 -- a word of a part, as the rule for `&s[a..a + n]` gives it
 pub part-word : (s : List ℕ) (a n i : ℕ) → i < n → word (take (a + n - a) (drop a s)) i ≡ word s (a + i)
-part-word s a n i h = getD-take (a + n - a) (drop a s) i 0 (omega arith) ∙ getD-drop a s i 0
+part-word s a n i h = word-part s a (a + n - a) i (omega arith)
 
 -- the lent words of a block are still the old ones
 block-word : (b l : ℕ) (f : ℕ → ℕ) (s a : List ℕ) → Writing (tabulate (8 * b) f) s a → l < 8 → word (take (8 * b + 8 - 8 * b) (drop (8 * b) a)) l ≡ word s (8 * b + l)
@@ -182,7 +182,7 @@ cell-apart width s t i j h g e =
     let r : 8 * s + i % 8 ≡ 8 * t + j % 8 = let z = ap (λ x. x * (8 * width)) b in omega arith in
     (omega arith, omega (arith, div-add-mod i 8, div-add-mod j 8))
 
-set-below : (q : ℕ) (s : List ℕ) (j v : ℕ) → v < q → AllBelow q s → AllBelow q (set s j v)
+pub set-below : (q : ℕ) (s : List ℕ) (j v : ℕ) → v < q → AllBelow q s → AllBelow q (set s j v)
 set-below q s j v h b k l =
     let n = length-set s j v in
     let other : (k ≡ j → ⊥) → word (set s j v) k < q = λ ne. rw (getD-set-other s j k v 0 ne) (b k (omega arith)) in

@@ -3,10 +3,9 @@
 use mathlib.Core.Path.{sym}
 use Prim.Native.Nat.{_+_, _*_}
 use native.Mathlib.Omega.{arith}
-use Rattle.numbers.proofs.WordsLaws.{from-below}
+use Rattle.numbers.proofs.WordsLaws.{from-below, take-below}
 use borrow.Author.Needs.{needs}
 use Rattle.solution.proofs.StepLaws.{seam-long, rest-long, seam-fits, gathered, store-fits}
-use Rattle.columns.proofs.ColumnLaws.{take-below}
 use Rattle.direct.proofs.gather_rows.Statement.{statement}
 use Rattle.direct.proofs.gather_rows.Tie as tie
 

@@ -47,7 +47,7 @@ outside-requires c κs = search needs
 
 -- what was tested is refusal 14
 tested : (b : tie.After-outside) → let a = b .before .before .before .before .before .before .before .before .before .before .before .args in b .outside .result ≡ outside 1 (reach (a .sheet .now)) (a .w)
-tested b = b .outside .ensures ∙ ap (λ n. outside 1 n (b .before .before .before .before .before .before .before .before .before .before .before .args .w)) (b .before .before .before .before .before .before .before .before .read-header .ensures .width-is)
+tested b = b .outside .ensures ∙ ap (λ n. outside 1 n (b .before .before .before .before .before .before .before .before .before .before .before .args .w)) (b .before .before .before .before .before .before .before .before .read-header .ensures .reach-is)
 
 refuse-requires-2 : tie.Need-refuse-requires-2
 refuse-requires-2 c κs = search needs

@@ -24,7 +24,7 @@ read-header-requires : tie.Need-read-header-requires
 read-header-requires c κs = let h = shape c .header .roomy in omega arith
 
 roots-below-requires : tie.Need-roots-below-requires
-roots-below-requires c κs = let h = shape (c .before) .header in let e = c .read-header .ensures in (omega arith, omega arith)
+roots-below-requires c κs = let h = shape (c .before) .header in let e = c .read-header .ensures in (omega arith, omega arith, omega arith)
 
 below : (b : tie.After-roots-below) → let s = b .before .before .before .before .before .args .s .now in Decides (b .roots-below .result) (RootsBelow s (count s) (modulus s))
 below b = read-below _ _ (b .before .read-header .ensures) _ (b .roots-below .ensures)
@@ -33,7 +33,7 @@ returns-2 : tie.Need-returns-2
 returns-2 c = decides-no (λ h. below (c .before) .no (not-true (c .before .roots-below .result) (c .if2 .taken)) (h .below))
 
 roots-rise-requires : tie.Need-roots-rise-requires
-roots-rise-requires c κs = let h = shape (c .before .before .before) .header in let e = c .before .before .read-header .ensures in (omega arith, omega arith)
+roots-rise-requires c κs = let h = shape (c .before .before .before) .header in let e = c .before .before .read-header .ensures in (omega arith, omega arith, omega arith)
 
 rise : (b : tie.After-roots-rise) → let s = b .before .before .before .before .before .before .before .args .s .now in Decides (b .roots-rise .result) (RootsRise s (count s))
 rise b = read-rise _ _ (b .before .before .before .read-header .ensures) _ (b .roots-rise .ensures)
@@ -45,15 +45,24 @@ polynomial-fits-requires : tie.Need-polynomial-fits-requires
 polynomial-fits-requires c κs = shape (c .before .before .before .before .before)
 
 returns-4 : tie.Need-returns-4
-returns-4 c =
+returns-4 c = decides-no (λ h. c .before .polynomial-fits .ensures .no (not-true (c .before .polynomial-fits .result) (c .if4 .taken)) (h .words))
+
+lengths-fit-requires : tie.Need-lengths-fit-requires
+lengths-fit-requires c κs = shape (c .before .before .before .before .before .before .before)
+
+returns-5 : tie.Need-returns-5
+returns-5 c =
+    let w = c .before in
+    let r = w .before .before in
     record {
       yes = λ t. record {
-        shape = shape (c .before .before .before .before .before .before);
-        below = below (c .before .before .before .before) .yes (not-false (c .before .before .before .before .roots-below .result) (c .before .before .before .if2 .left));
-        rise = rise (c .before .before) .yes (not-false (c .before .before .roots-rise .result) (c .before .if3 .left));
-        words = c .polynomial-fits .ensures .yes t;
+        shape = shape (c .before .before .before .before .before .before .before .before);
+        below = below (r .before .before .before) .yes (not-false (r .before .before .before .roots-below .result) (r .before .before .if2 .left));
+        rise = rise (r .before) .yes (not-false (r .before .roots-rise .result) (r .if3 .left));
+        words = w .before .polynomial-fits .ensures .yes (not-false (w .before .polynomial-fits .result) (w .if4 .left));
+        lengths = c .lengths-fit .ensures .yes t;
       };
-      no = λ t h. c .polynomial-fits .ensures .no t (h .words);
+      no = λ t h. c .lengths-fit .ensures .no t (h .lengths);
     }
 
 pub front-fits-spec : {M : Type 1} → statement M
@@ -68,4 +77,6 @@ front-fits-spec =
     roots-rise-requires
     returns-3
     polynomial-fits-requires
-    returns-4)
+    returns-4
+    lengths-fit-requires
+    returns-5)

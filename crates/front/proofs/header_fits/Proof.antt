@@ -54,27 +54,30 @@ cast-if3 c = search needs
 returns-4 : tie.Need-returns-4
 returns-4 c = decides-no (λ f. let l = says (c .before .before .before .before .before .before .before) f .width-in in let z : ⊥ = omega (arith, c .if3 .taken) in z)
 
+returns-5 : tie.Need-returns-5
+returns-5 c = decides-no (λ f. let l = says (c .before .before .before .before .before .before .before .before .before) f .reach-in in let z : ⊥ = omega (arith, c .if4 .taken) in z)
+
 one-to-requires-2 : tie.Need-one-to-requires-2
 one-to-requires-2 c κs = search needs
 
-returns-5 : tie.Need-returns-5
-returns-5 c = decides-no (λ f. c .before .one-to2 .ensures .no (not-true (c .before .one-to2 .result) (c .if4 .taken)) (says (c .before .before .before .before .before .before .before .before .before) f .terms-in))
+returns-6 : tie.Need-returns-6
+returns-6 c = decides-no (λ f. c .before .one-to2 .ensures .no (not-true (c .before .one-to2 .result) (c .if5 .taken)) (says (c .before .before .before .before .before .before .before .before .before .before .before) f .terms-in))
 
 one-to-requires-3 : tie.Need-one-to-requires-3
 one-to-requires-3 c κs = search needs
 
-returns-6 : tie.Need-returns-6
-returns-6 c = decides-no (λ f. c .before .one-to3 .ensures .no (not-true (c .before .one-to3 .result) (c .if5 .taken)) (says (c .before .before .before .before .before .before .before .before .before .before .before) f .count-in))
+returns-7 : tie.Need-returns-7
+returns-7 c = decides-no (λ f. c .before .one-to3 .ensures .no (not-true (c .before .one-to3 .result) (c .if6 .taken)) (says (c .before .before .before .before .before .before .before .before .before .before .before .before .before) f .count-in))
 
-count-in : (b : tie.Else5) → let h = b .before .before .before .before .before .before .before .before .before .before .before .read-header .result in OneTo (h .degree) (h .count)
-count-in b = b .before .one-to3 .ensures .yes (not-false (b .before .one-to3 .result) (b .if5 .left))
+count-in : (b : tie.Else6) → let h = b .before .before .before .before .before .before .before .before .before .before .before .before .before .read-header .result in OneTo (h .degree) (h .count)
+count-in b = b .before .one-to3 .ensures .yes (not-false (b .before .one-to3 .result) (b .if6 .left))
 
 polynomial-from-requires : tie.Need-polynomial-from-requires
-polynomial-from-requires c κs = let d = degree-in (c .before .before .before .before .before .before) in let r = count-in c in omega arith
+polynomial-from-requires c κs = let d = degree-in (c .before .before .before .before .before .before .before .before) in let r = count-in c in (omega arith, omega arith)
 
-returns-7 : tie.Need-returns-7
-returns-7 c =
-    let b = c .before .before .before .before .before .before .before in
+returns-8 : tie.Need-returns-8
+returns-8 c =
+    let b = c .before .before .before .before .before .before .before .before .before in
     let d = c .before .before .before in
     let r = b .before .before .before .before .before in
     let s = r .before .before .before .args .s .now in
@@ -83,8 +86,9 @@ returns-7 c =
     (λ l. read-fits _ _ (r .read-header .ensures) (record {
       modulus-in = sym (b .before .before .before .before .check-modulus .ensures) ∙ b .before .before .enum-told2 .given .1;
       degree-in = degree-in b;
-      width-in = d .before .before .if3 .left;
-      terms-in = d .before .one-to2 .ensures .yes (not-false (d .before .one-to2 .result) (d .if4 .left));
+      width-in = d .before .before .before .before .if3 .left;
+      reach-in = d .before .before .if4 .left;
+      terms-in = d .before .one-to2 .ensures .yes (not-false (d .before .one-to2 .result) (d .if5 .left));
       count-in = count-in (c .before);
       roomy = subst (λ n. n ≤ length s) e l;
     }))
@@ -105,9 +109,10 @@ header-fits-spec =
     returns-3
     cast-if3
     returns-4
-    one-to-requires-2
     returns-5
-    one-to-requires-3
+    one-to-requires-2
     returns-6
+    one-to-requires-3
+    returns-7
     polynomial-from-requires
-    returns-7)
+    returns-8)

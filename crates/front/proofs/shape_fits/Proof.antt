@@ -24,7 +24,7 @@ read-header-requires : tie.Need-read-header-requires
 read-header-requires c κs = let h = header c in omega (arith, h .roomy)
 
 powers-fit-requires : tie.Need-powers-fit-requires
-powers-fit-requires c κs = let h = header (c .before) in let e = c .read-header .ensures in (omega arith, omega arith)
+powers-fit-requires c κs = let h = header (c .before) in let e = c .read-header .ensures in (omega arith, omega arith, omega arith)
 
 powers : (b : tie.After-powers-fit) → let s = b .before .before .before .before .before .args .s .now in Decides (b .powers-fit .result) (PowersFit s (count s) (degree s))
 powers b = read-powers _ _ (b .before .read-header .ensures) _ (b .powers-fit .ensures)

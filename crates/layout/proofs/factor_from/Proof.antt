@@ -4,7 +4,7 @@ use mathlib.Core.Path.{_≡_, ap₂, _∙_}
 use Prim.Native.Nat.{ℕ, _+_, _*_}
 use native.Mathlib.Omega.{arith}
 use Rattle.algebra.specs.Sums.{sumTo}
-use Rattle.layout.specs.Layout.{width, power, factorsFrom}
+use Rattle.layout.specs.Layout.{width, power}
 use Rattle.layout.proofs.PlacesLaws.{placed-entries, each-power, Small, factor-small, header-factors}
 use borrow.Author.Needs.{needs}
 use Rattle.layout.proofs.factor_from.Statement.{statement}
@@ -23,7 +23,7 @@ rows-before-requires c κs =
     let l = placed-entries (b .args .s .now) h in
     let r = h .count-high in
     let i = b .pre .1 in
-    (omega arith, omega arith, λ l g. each-power (b .args .s .now) h l (omega arith))
+    (omega arith, h .degree-high, omega arith, λ l g. each-power (b .args .s .now) h l (omega arith))
 
 -- the rows before, and what they take
 times : (b : tie.After-rows-before) → let s = b .before .before .before .before .args .s .now in
@@ -42,6 +42,7 @@ add-result c =
     let e = times c in
     let f = c .before .factors-from .ensures ∙ header-factors (c .before .before .before .before .args .s .now) (c .before .before .read-header .result) (c .before .before .read-header .ensures) in
     let r = c .before .before .before .before .pre .0 .count-high in
+    let d = c .before .before .before .before .pre .0 .degree-high in
     omega arith
 
 returns : tie.Need-returns

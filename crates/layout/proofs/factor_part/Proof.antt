@@ -1,7 +1,7 @@
 -- `layout::factor_part` meets its contract: the part ends within the sheet.
 -- Assumes nothing.
 use mathlib.Core.Path.{_≡_, ap₂}
-use Prim.Native.Nat.{ℕ, _+_, _*_}
+use Prim.Native.Nat.{ℕ, _*_}
 use native.Mathlib.Omega.{arith}
 use Rattle.layout.specs.Layout.{factorSize}
 use Rattle.layout.proofs.PlacesLaws.{part-is, Small, factor-small, factor-within}
@@ -37,6 +37,7 @@ add-e c =
     let e = size c in
     let f = c .before .before .factor-from .ensures in
     let r = c .before .before .before .before .before .pre .0 .count-high in
+    let d = c .before .before .before .before .before .pre .0 .degree-high in
     omega arith
 
 mul-result : tie.Need-mul-result
@@ -44,6 +45,7 @@ mul-result c =
     let z = small c in
     let f = c .before .before .factor-from .ensures in
     let r = c .before .before .before .before .before .pre .0 .count-high in
+    let d = c .before .before .before .before .before .pre .0 .degree-high in
     omega arith
 
 sub-result : tie.Need-sub-result

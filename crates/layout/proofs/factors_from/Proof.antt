@@ -2,29 +2,33 @@
 -- Assumes nothing.
 use Prim.Native.Nat.{_+_}
 use native.Mathlib.Omega.{arith}
-use borrow.Author.Needs.{needs}
 use Rattle.numbers.proofs.RefusalsLaws.{few-words}
+use borrow.Author.Needs.{needs}
 use Rattle.layout.proofs.factors_from.Statement.{statement}
 use Rattle.layout.proofs.factors_from.Tie as tie
-
-mul-result : tie.Need-mul-result
-mul-result c = search needs
 
 add-result : tie.Need-add-result
 add-result c = search needs
 
+mul-result : tie.Need-mul-result
+mul-result c = search needs
+
 add-result-2 : tie.Need-add-result-2
 add-result-2 c = search needs
+
+add-result-3 : tie.Need-add-result-3
+add-result-3 c = search needs
 
 mul-result-2 : tie.Need-mul-result-2
 mul-result-2 c = omega (arith, few-words (c .args .d + 1) (c .args .n) (omega arith) (omega arith))
 
-add-result-3 : tie.Need-add-result-3
-add-result-3 c = omega (arith, few-words (c .args .d + 1) (c .args .n) (omega arith) (omega arith))
+add-result-4 : tie.Need-add-result-4
+add-result-4 c = omega (arith, few-words (c .args .d + 1) (c .args .n) (omega arith) (omega arith))
 
 returns : tie.Need-returns
 returns c = search needs
 
 pub factors-from-spec : {M : Type 1} → statement M
 factors-from-spec =
-    tie.close (tie.spec mul-result add-result add-result-2 mul-result-2 add-result-3 returns)
+    tie.close
+    (tie.spec add-result mul-result add-result-2 add-result-3 mul-result-2 add-result-4 returns)

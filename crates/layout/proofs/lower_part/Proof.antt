@@ -18,7 +18,7 @@ mul-words-from : tie.Need-mul-words-from
 mul-words-from c = let a = c .before .before .before .before in let e = c .before .before .read-header .ensures in let z = header-size _ _ e in record { fits = omega (arith, lower-within (a .args .s .now) (a .pre)) }
 
 words-from-requires : tie.Need-words-from-requires
-words-from-requires c κs = let a = c .before .before .before .before in let e = c .before .before .read-header .ensures in let z = header-size _ _ e in omega (arith, c .before .polynomial-from .ensures, e .count-is, lower-within (a .args .s .now) (a .pre))
+words-from-requires c κs = let a = c .before .before .before .before in let e = c .before .before .read-header .ensures in let z = header-size _ _ e in omega (arith, c .before .polynomial-from .ensures ∙ header-polynomial _ _ e, lower-within (a .args .s .now) (a .pre))
 
 returns : tie.Need-returns
 returns c = let e = c .before .before .before .read-header .ensures in c .words-from .ensures ∙ ap₂ (part (c .before .before .before .before .before .args .s .now)) (c .before .before .polynomial-from .ensures ∙ header-polynomial _ _ e) (header-size _ _ e)

@@ -6,14 +6,23 @@ use borrow.Author.Needs.{needs}
 use Rattle.layout.proofs.power_at.Statement.{statement}
 use Rattle.layout.proofs.power_at.Tie as tie
 
-mul-result : tie.Need-mul-result
-mul-result c = search needs
+shared-slice-read-d : tie.Need-shared-slice-read-d
+shared-slice-read-d c = search needs
+
+cast-d : tie.Need-cast-d
+cast-d c = search needs
 
 add-result : tie.Need-add-result
 add-result c = search needs
 
+mul-result : tie.Need-mul-result
+mul-result c = search needs
+
 add-result-2 : tie.Need-add-result-2
 add-result-2 c = search needs
+
+add-result-3 : tie.Need-add-result-3
+add-result-3 c = search needs
 
 mul-result-2 : tie.Need-mul-result-2
 mul-result-2 c = search needs
@@ -27,4 +36,4 @@ returns c = refl
 pub power-at-spec : {M : Type 1} → statement M
 power-at-spec =
     tie.close
-    (tie.spec mul-result add-result add-result-2 mul-result-2 shared-slice-read-result returns)
+    (tie.spec shared-slice-read-d cast-d add-result mul-result add-result-2 add-result-3 mul-result-2 shared-slice-read-result returns)

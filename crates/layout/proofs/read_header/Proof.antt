@@ -32,6 +32,12 @@ shared-slice-read-t14 c = search needs
 cast-t15 : tie.Need-cast-t15
 cast-t15 c = omega (arith, c .shared-slice-known5 .given 4)
 
+shared-slice-read-t17 : tie.Need-shared-slice-read-t17
+shared-slice-read-t17 c = search needs
+
+cast-t18 : tie.Need-cast-t18
+cast-t18 c = omega (arith, c .shared-slice-known6 .given 10)
+
 returns : tie.Need-returns
 returns c = search needs
 
@@ -48,4 +54,6 @@ read-header-spec =
     cast-t12
     shared-slice-read-t14
     cast-t15
+    shared-slice-read-t17
+    cast-t18
     returns)

@@ -31,7 +31,7 @@ add-sum : tie.Need-add-sum Inv-loop μ-loop
 add-sum c =
     let b = c .before .before .before .before in
     let p = c .power-at .ensures in
-    omega (arith, b .pre .2 (c .before .before .loop .l) (omega arith), sumTo-bound (c .before .before .loop .l) largestDegree (power (b .args .s .now)) (λ k g. b .pre .2 k (omega arith)))
+    omega (arith, b .pre .3 (c .before .before .loop .l) (omega arith), sumTo-bound (c .before .before .loop .l) largestDegree (power (b .args .s .now)) (λ k g. b .pre .3 k (omega arith)))
 
 add-l : tie.Need-add-l Inv-loop μ-loop
 add-l c = search needs

@@ -13,7 +13,7 @@ use Rattle.algebra.specs.Sums.{sumTo}
 use Rattle.numbers.specs.Limits.{largestDegree, largestWidth}
 use Rattle.layout.specs.declared.Header.{Header}
 use Rattle.layout.specs.declared.Offsets.{Offsets}
-use Rattle.layout.specs.Layout.{modulus, degree, width, terms, count, power, end}
+use Rattle.layout.specs.Layout.{modulus, degree, width, terms, count, reach, power, end}
 use Rattle.numbers.specs.Words.{word}
 
 abbrev pub rootsOffset : List ℕ → ℕ
@@ -42,6 +42,7 @@ pub record HeaderIs (s : List ℕ) (h : Header) : Type 0 where
   pub width-is : h .width ≡ width s
   pub terms-is : h .terms ≡ terms s
   pub count-is : h .count ≡ count s
+  pub reach-is : h .reach ≡ reach s
 
 pub record OffsetsAre (s : List ℕ) (o : Offsets) : Type 0 where
   pub roots-is : o .roots ≡ rootsOffset s

@@ -2,17 +2,18 @@
 -- Assumes nothing.
 use mathlib.Core.Path.{refl, ap}
 use Rattle.numbers.specs.Refusals.{outcome}
-use Rattle.sheet.specs.Sheet.{Given, givenOf}
+use Rattle.sheet.specs.Sheet.{Given, wholeOf}
+use Rattle.sheet.proofs.HoldsLaws.{whole-reach}
 use Rattle.listing.proofs.ListingLaws.{wrote-refused, given-listable, wrote-listed}
 use borrow.Author.Needs.{needs}
 use Rattle.listing.proofs.write_given.Statement.{statement}
 use Rattle.listing.proofs.write_given.Tie as tie
 
-slice-aggregate-open : tie.Need-slice-aggregate-open
-slice-aggregate-open c = search needs
+slice-aggregate-open-known : tie.Need-slice-aggregate-open-known
+slice-aggregate-open-known c = search needs
 
-open-requires : tie.Need-open-requires
-open-requires c κs = search needs
+open-known-requires : tie.Need-open-known-requires
+open-known-requires c κs = search needs
 
 enum-known-r : tie.Need-enum-known-r
 enum-known-r c = search needs
@@ -26,8 +27,9 @@ same-length c = search needs
 returns : tie.Need-returns
 returns c =
     let a = c .before .before .before .before .before .before .before .before .before .before .before .before .before .args in
-    let g : Given = givenOf (a .p) (a .d) (a .n) (a .rows .now) (a .roots .now) in
-    wrote-refused g _ _ _ refl (c .before .before .before .before .before .before .before .before .«open» .ensures) _ _ (ap outcome (c .before .before .before .before .before .r .given .1)) (c .before .before .put-refusal .ensures)
+    let g : Given = wholeOf (a .p) (a .d) (a .n) (a .rows .now) (a .roots .now) in
+    let whole = whole-reach (a .p) (a .d) (a .n) (a .rows .now) (a .roots .now) in
+    wrote-refused g whole _ _ _ refl (c .before .before .before .before .before .before .before .before .open-known .ensures) _ _ (ap outcome (c .before .before .before .before .before .r .given .1)) (c .before .before .put-refusal .ensures)
 
 enum-told : tie.Need-enum-told
 enum-told c = search needs
@@ -45,8 +47,9 @@ put-listing-requires : tie.Need-put-listing-requires
 put-listing-requires c κs =
     let h = c .before .before .before .before .before .before .before .before .before .before .before .before .before .pre in
     let a = c .before .before .before .before .before .before .before .before .before .before .before .before .before .args in
-    let g : Given = givenOf (a .p) (a .d) (a .n) (a .rows .now) (a .roots .now) in
-    (given-listable g _ _ _ refl (c .before .before .before .before .before .before .before .before .«open» .ensures) _ _ _ _ (ap outcome (c .before .before .before .before .before .enum-told .given .1)) refl (h .0) (h .1) (c .before .before .before .extend .ensures), h .2)
+    let g : Given = wholeOf (a .p) (a .d) (a .n) (a .rows .now) (a .roots .now) in
+    let whole = whole-reach (a .p) (a .d) (a .n) (a .rows .now) (a .roots .now) in
+    (given-listable g whole _ _ _ refl (c .before .before .before .before .before .before .before .before .open-known .ensures) _ _ _ _ (ap outcome (c .before .before .before .before .before .enum-told .given .1)) refl (h .0) (h .1) (c .before .before .before .extend .ensures), h .2)
 
 same-length-2 : tie.Need-same-length-2
 same-length-2 c = search needs
@@ -54,15 +57,16 @@ same-length-2 c = search needs
 returns-2 : tie.Need-returns-2
 returns-2 c =
     let a = c .before .before .before .before .before .before .before .before .before .before .before .before .before .before .before .before .args in
-    let g : Given = givenOf (a .p) (a .d) (a .n) (a .rows .now) (a .roots .now) in
-    wrote-listed g _ _ _ refl (c .before .before .before .before .before .before .before .before .before .before .before .«open» .ensures) _ _ _ _ (ap outcome (c .before .before .before .before .before .before .before .before .enum-told .given .1)) refl (c .before .before .before .before .before .before .extend .ensures) (c .before .before .put-listing .ensures)
+    let g : Given = wholeOf (a .p) (a .d) (a .n) (a .rows .now) (a .roots .now) in
+    let whole = whole-reach (a .p) (a .d) (a .n) (a .rows .now) (a .roots .now) in
+    wrote-listed g whole _ _ _ refl (c .before .before .before .before .before .before .before .before .before .before .before .open-known .ensures) _ _ _ _ (ap outcome (c .before .before .before .before .before .before .before .before .enum-told .given .1)) refl (c .before .before .before .before .before .before .extend .ensures) (c .before .before .put-listing .ensures)
 
 pub write-given-spec : {M : Type 1} → statement M
 write-given-spec =
     tie.close
     (tie.spec
-    slice-aggregate-open
-    open-requires
+    slice-aggregate-open-known
+    open-known-requires
     enum-known-r
     put-refusal-requires
     same-length

@@ -12,7 +12,7 @@ use Rattle.open.proofs.open.Tie as tie
 
 -- what is given
 abbrev given : tie.Start → Given
-given s = let a = s .args in givenOf (a .p) (a .d) (a .n) (a .rows .now) (a .roots .now)
+given s = let a = s .args in givenOf (a .p) (a .d) (a .n) (a .rows .now) (a .lengths .now) (a .roots .now)
 
 slice-aggregate-check-open : tie.Need-slice-aggregate-check-open
 slice-aggregate-check-open c = search needs
@@ -25,7 +25,7 @@ enum-known-answer c = search needs
 
 array-share-prefix-powers : tie.Need-array-share-prefix-powers
 array-share-prefix-powers c =
-    let s = c .before .before .before .before .before .before .before .before .before in
+    let s = c .before .before .before .before .before .before .before .before .before .before in
     let q = ap outcome (c .before .answer .given .1) in
     let h = c .before .before .before .before .check-open .ensures in
     let z = list-small (given s) (open-list (given s) (s .args .out .now) _ _ _ q h) in
@@ -33,13 +33,13 @@ array-share-prefix-powers c =
     omega arith
 
 slice-aggregate-write-sheet : tie.Need-slice-aggregate-write-sheet
-slice-aggregate-write-sheet c = let s = c .before .before .before .before .before .before .before .before .before .before in sym (write-ready (given s) (s .args .out .now) _ _ _ (ap outcome (c .before .before .answer .given .1)) (c .before .before .before .before .before .check-open .ensures) .2)
+slice-aggregate-write-sheet c = let s = c .before .before .before .before .before .before .before .before .before .before .before in sym (write-ready (given s) (s .args .out .now) _ _ _ (ap outcome (c .before .before .answer .given .1)) (c .before .before .before .before .before .check-open .ensures) .3)
 
 cast-write-sheet : tie.Need-cast-write-sheet
 cast-write-sheet c = search needs
 
 write-sheet-requires : tie.Need-write-sheet-requires
-write-sheet-requires c κs = let s = c .before .before .before .before .before .before .before .before .before .before .before in write-ready (given s) (s .args .out .now) _ _ _ (ap outcome (c .before .before .before .answer .given .1)) (c .before .before .before .before .before .before .check-open .ensures)
+write-sheet-requires c κs = let s = c .before .before .before .before .before .before .before .before .before .before .before .before in write-ready (given s) (s .args .out .now) _ _ _ (ap outcome (c .before .before .before .answer .given .1)) (c .before .before .before .before .before .before .check-open .ensures)
 
 enum-told : tie.Need-enum-told
 enum-told c = search needs
@@ -49,12 +49,12 @@ same-length c = search needs
 
 returns : tie.Need-returns
 returns c =
-    let s = c .before .before .before .before .before .before .before .before .before .before .before .before .before .before in
+    let s = c .before .before .before .before .before .before .before .before .before .before .before .before .before .before .before in
     write-done (given s) (s .args .out .now) _ _ _ (ap outcome (c .before .before .before .before .before .before .answer .given .1)) (c .before .before .before .before .before .before .before .before .before .check-open .ensures) _ (c .before .before .write-sheet .ensures)
 
 returns-2 : tie.Need-returns-2
 returns-2 c =
-    let s = c .before .before .before .before .before .before .before .before in
+    let s = c .before .before .before .before .before .before .before .before .before in
     open-refused (given s) (s .args .out .now) _ _ _ _ (ap outcome (c .enum-told .given .1)) (c .before .before .before .check-open .ensures)
 
 pub open-spec : {M : Type 1} → statement M

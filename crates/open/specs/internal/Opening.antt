@@ -1,6 +1,6 @@
 -- What the functions that make open's checks answer. No public contract cites these.
 --   PowersAnswer g   what was found are the powers of refusal 9
---   CheckedOpen      what all ten checks answer
+--   CheckedOpen      what all checks answer
 --   isUnit s         the words of s are 1, 0, 0, ..
 -- Assumes nothing.
 use Prim.Native.Nat.{ℕ}

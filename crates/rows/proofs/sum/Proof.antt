@@ -56,7 +56,7 @@ same-length c = search needs
 returns-2 : tie.Need-returns-2
 returns-2 c =
     let a = c .before .before .before .before .before .before .before .before .before .before .args in
-    rows-done (a .p) (a .d) (a .n) (a .f .now) (a .g .now) (length (a .out .now)) (passed (c .before .before .before .before)) (λ k. sums (a .p) k (a .f .now) (a .g .now)) _ _ (c .before .before .add .ensures)
+    rows-done (a .p) (a .d) (a .n) (a .f .now) (a .g .now) (length (a .out .now)) (passed (c .before .before .before .before)) (λ k. sums (a .p) k (a .f .now) k (a .g .now) k) _ _ (c .before .before .add .ensures)
 
 pub sum-spec : {M : Type 1} → statement M
 sum-spec =

@@ -5,7 +5,7 @@ use Prim.Native.Nat.{_+_, _≤_}
 use native.Mathlib.Omega.{arith}
 use lib.ListN.{length}
 use Rattle.numbers.specs.Limits.{largestDegree}
-use Rattle.layout.specs.Layout.{polynomialFrom}
+use Rattle.layout.specs.Layout.{degree, polynomialFrom}
 use Rattle.layout.proofs.PlacesLaws.{placed-entries}
 use Rattle.sheet.proofs.ReadingLaws.{sound-placed}
 use borrow.Author.Needs.{needs}
@@ -13,8 +13,8 @@ use Rattle.sheet.proofs.factor_shape.Statement.{statement}
 use Rattle.sheet.proofs.factor_shape.Tie as tie
 
 -- the power of root i is there
-entry : (s : tie.Start) → (s .args .i ≤ largestDegree) × (polynomialFrom (s .args .i + 1) ≤ length (s .args .sheet .now))
-entry s = let h = sound-placed (s .args .sheet .now) (s .pre .0) in let l = placed-entries (s .args .sheet .now) h in let r = h .count-high in let i = s .pre .1 in (omega arith, omega arith)
+entry : (s : tie.Start) → (s .args .i ≤ largestDegree) × (degree (s .args .sheet .now) ≤ largestDegree) × (polynomialFrom (degree (s .args .sheet .now)) (s .args .i + 1) ≤ length (s .args .sheet .now))
+entry s = let h = sound-placed (s .args .sheet .now) (s .pre .0) in let l = placed-entries (s .args .sheet .now) h in let r = h .count-high in let i = s .pre .1 in (omega arith, h .degree-high, omega arith)
 
 read-header-requires : tie.Need-read-header-requires
 read-header-requires c κs = search needs

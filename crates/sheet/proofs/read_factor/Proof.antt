@@ -6,7 +6,7 @@ use native.Mathlib.Omega.{arith}
 use lib.ListN.{length}
 use Rattle.numbers.specs.Limits.{largestDegree}
 use Rattle.numbers.specs.declared.refusal.Verdict.the-variants.{Pass, Refuse}
-use Rattle.layout.specs.Layout.{polynomialFrom}
+use Rattle.layout.specs.Layout.{degree, polynomialFrom}
 use Rattle.layout.proofs.PlacesLaws.{placed-entries}
 use Rattle.sheet.specs.Reading.{readVerdict}
 use Rattle.sheet.proofs.ReadingLaws.{read-pass, sound-placed}
@@ -33,13 +33,13 @@ enum-told c = search needs
 passed : (b : tie.After-enum-told) → let a = b .before .before .before .before .args in readVerdict (a .sheet .now) (a .i) ≡ Pass
 passed b = sym (b .before .before .check-read .ensures) ∙ b .enum-told .given .1
 
-there : (b : tie.After-enum-told) → let a = b .before .before .before .before .args in (a .i ≤ largestDegree) × (polynomialFrom (a .i + 1) ≤ length (a .sheet .now))
+there : (b : tie.After-enum-told) → let a = b .before .before .before .before .args in (a .i ≤ largestDegree) × (degree (a .sheet .now) ≤ largestDegree) × (polynomialFrom (degree (a .sheet .now)) (a .i + 1) ≤ length (a .sheet .now))
 there b =
     let a = b .before .before .before .before .args in
     let (sound, l) = read-pass (a .sheet .now) (a .i) (passed b) in
     let h = sound-placed (a .sheet .now) sound in
     let e = placed-entries (a .sheet .now) h in
-    (omega arith, omega arith)
+    (omega arith, h .degree-high, omega arith)
 
 root-at-requires : tie.Need-root-at-requires
 root-at-requires c κs = there c

@@ -4,7 +4,6 @@
 --   Loaded s roots powers   these are the roots and the powers that the sheet lists
 --   blockRows          the rows of factor i among rows of n words
 --   Computed s w rows  the rows are those of the factors of the sheet's polynomial to w terms; columns from w up are 0
---   upTo k a t         a t, and 0 from k on
 --   SameTerms ..       the stored rows of n words are the computed ones below column k, and 0 from there on
 --   WorkedOut ..       whether there are factors, and then their rows
 -- Assumes nothing.
@@ -12,10 +11,9 @@ use Prim.Native.Nat.{ℕ, _+_, _*_, _≤_, _<_}
 use mathlib.Core.Path.{_≡_}
 use mathlib.Core.Bool.{Bool, true, false}
 use mathlib.Core.List.{List}
-use lib.Dec.{ltb}
 use lib.ListN.{length}
 use Rattle.algebra.specs.Sums.{sumTo}
-use Rattle.numbers.specs.Words.{word, choose}
+use Rattle.numbers.specs.Words.{word, upTo}
 use Rattle.numbers.specs.internal.Facts.{AllBelow}
 use Rattle.hensel.specs.Factors.{split, IsFactors}
 use Rattle.layout.specs.Layout.{modulus, degree, width, count, root, power, polynomial}
@@ -32,9 +30,6 @@ pub record Loaded (s roots powers : List ℕ) : Type 0 where
 -- the rows of factor i among rows of n words
 abbrev pub blockRows : (n : ℕ) (power : ℕ → ℕ) (rows : List ℕ) → ℕ → ℕ → ℕ → ℕ
 blockRows n power rows i j t = word rows ((sumTo i power + j) * n + t)
-
-abbrev pub upTo : ℕ → (ℕ → ℕ) → ℕ → ℕ
-upTo k a t = choose (ltb t k) (a t) 0
 
 pub record Computed (s : List ℕ) (w : ℕ) (rows : List ℕ) : Type 0 where
   pub long : length rows ≡ degree s * width s

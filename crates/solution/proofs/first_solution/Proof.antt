@@ -4,12 +4,11 @@ use mathlib.Core.Path.{sym, ap, _∙_}
 use Prim.Native.Nat.{_≤_, _-_}
 use native.Mathlib.Omega.{arith}
 use lib.ListN.{length}
-use Rattle.numbers.proofs.WordsLaws.{length-tabulate}
+use Rattle.numbers.proofs.WordsLaws.{length-tabulate, take-below}
 use borrow.Author.Needs.{needs}
 use Rattle.solution.proofs.TableLaws.{first-is, first-below}
 use lib.Seq.{length-take-le}
 use Rattle.columns.specs.internal.Column.{firstOnly}
-use Rattle.columns.proofs.ColumnLaws.{take-below}
 use Rattle.solution.proofs.first_solution.Statement.{statement}
 use Rattle.solution.proofs.first_solution.Tie as tie
 

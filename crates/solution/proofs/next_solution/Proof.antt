@@ -3,10 +3,10 @@
 use mathlib.Core.Path.{sym}
 use Prim.Native.Nat.{_-_}
 use native.Mathlib.Omega.{arith}
+use Rattle.numbers.proofs.WordsLaws.{take-below}
 use borrow.Author.Needs.{needs}
 use Rattle.solution.proofs.TableLaws.{solution-after, mid-length, mid-below}
 use lib.Seq.{length-take-le}
-use Rattle.columns.proofs.ColumnLaws.{take-below}
 use Rattle.solution.proofs.next_solution.Statement.{statement}
 use Rattle.solution.proofs.next_solution.Tie as tie
 

@@ -5,7 +5,7 @@ use Prim.Native.Nat.{ℕ, _+_, _*_, _≤_}
 use native.Mathlib.Omega.{arith}
 use lib.ListN.{length}
 use Rattle.numbers.specs.Limits.{largestDegree}
-use Rattle.layout.specs.Layout.{polynomialFrom, factorSize}
+use Rattle.layout.specs.Layout.{degree, polynomialFrom, factorSize}
 use Rattle.layout.proofs.PlacesLaws.{placed-entries, factor-within}
 use Rattle.text.proofs.SheetTextLaws.{power-few, factor-put}
 use borrow.Author.Needs.{needs}
@@ -13,8 +13,8 @@ use Rattle.text.proofs.put_factor.Statement.{statement}
 use Rattle.text.proofs.put_factor.Tie as tie
 
 -- root i and its power are there
-entry : (s : tie.Start) → (s .args .i ≤ largestDegree) × (polynomialFrom (s .args .i + 1) ≤ length (s .args .sheet .now))
-entry s = let h = s .pre .0 in let l = placed-entries (s .args .sheet .now) (h .placed) in let r = h .count-high in let i = s .pre .1 in (omega arith, omega arith)
+entry : (s : tie.Start) → (s .args .i ≤ largestDegree) × (degree (s .args .sheet .now) ≤ largestDegree) × (polynomialFrom (degree (s .args .sheet .now)) (s .args .i + 1) ≤ length (s .args .sheet .now))
+entry s = let h = s .pre .0 in let l = placed-entries (s .args .sheet .now) (h .placed) in let r = h .count-high in let i = s .pre .1 in (omega arith, h .placed .degree-high, omega arith)
 
 -- the words of its rows
 size : (b : tie.After-power-at) → let a = b .before .before .before .before .args in b .power-at .result * b .before .read-header .result .width ≡ factorSize (a .sheet .now) (a .i)

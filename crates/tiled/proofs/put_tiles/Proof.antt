@@ -7,8 +7,7 @@ use native.Mathlib.Omega.{arith}
 use lib.ListN.{length}
 use lib.Seq.{length-take-le}
 use Rattle.numbers.specs.internal.Limits.{modulusBound}
-use Rattle.numbers.proofs.WordsLaws.{from, length-from, from-below}
-use Rattle.columns.proofs.ColumnLaws.{take-below}
+use Rattle.numbers.proofs.WordsLaws.{from, length-from, from-below, take-below}
 use Rattle.tiled.proofs.TiledLaws.{beside-low, beside-high}
 use borrow.Author.Needs.{needs}
 use Rattle.tiled.proofs.put_tiles.Statement.{statement}

@@ -5,7 +5,7 @@ use Prim.Native.Nat.{ℕ, _+_, _*_, _≤_}
 use native.Mathlib.Omega.{arith}
 use lib.ListN.{length, length-set}
 use Rattle.numbers.specs.Limits.{largestDegree}
-use Rattle.layout.specs.Layout.{polynomialFrom, factorSize}
+use Rattle.layout.specs.Layout.{degree, polynomialFrom, factorSize}
 use Rattle.layout.specs.internal.Places.{Placed}
 use Rattle.layout.proofs.PlacesLaws.{placed-entries, Small, factor-small}
 use Rattle.sheet.proofs.ReadingLaws.{sound-placed}
@@ -18,8 +18,8 @@ use Rattle.capi.proofs.factor.put_factor.Tie as tie
 placed : (s : tie.Start) → Placed (s .args .sheet .now)
 placed s = sound-placed (s .args .sheet .now) (s .pre .0)
 
-entry : (s : tie.Start) → (s .args .i ≤ largestDegree) × (polynomialFrom (s .args .i + 1) ≤ length (s .args .sheet .now))
-entry s = let h = placed s in let l = placed-entries (s .args .sheet .now) h in let r = h .count-high in let i = s .pre .1 in (omega arith, omega arith)
+entry : (s : tie.Start) → (s .args .i ≤ largestDegree) × (degree (s .args .sheet .now) ≤ largestDegree) × (polynomialFrom (degree (s .args .sheet .now)) (s .args .i + 1) ≤ length (s .args .sheet .now))
+entry s = let h = placed s in let l = placed-entries (s .args .sheet .now) h in let r = h .count-high in let i = s .pre .1 in (omega arith, h .degree-high, omega arith)
 
 small : (s : tie.Start) → Small (s .args .sheet .now) (s .args .i)
 small s = factor-small (s .args .sheet .now) (placed s) (s .args .i) (s .pre .1)

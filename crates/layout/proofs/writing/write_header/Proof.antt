@@ -10,6 +10,12 @@ use borrow.Author.Needs.{needs}
 use Rattle.layout.proofs.writing.write_header.Statement.{statement}
 use Rattle.layout.proofs.writing.write_header.Tie as tie
 
+roots-from-requires : tie.Need-roots-from-requires
+roots-from-requires c κs = search needs
+
+cast-roots : tie.Need-cast-roots
+cast-roots c = search needs
+
 polynomial-from-requires : tie.Need-polynomial-from-requires
 polynomial-from-requires c κs = search needs
 
@@ -21,7 +27,7 @@ factors-from-requires c κs = search needs
 
 cast-factors : tie.Need-cast-factors
 cast-factors c =
-    let a = c .before .before .before .args in
+    let a = c .before .before .before .before .args in
     let e = c .factors-from .ensures in
     omega (arith, few-words (a .d + 1) (a .n) (omega arith) (omega arith))
 
@@ -30,7 +36,7 @@ total-of-requires c κs = search needs
 
 cast-total : tie.Need-cast-total
 cast-total c =
-    let a = c .before .before .before .before .args in
+    let a = c .before .before .before .before .before .args in
     let e = c .total-of .ensures in
     omega (arith, all-rows-small (2 * a .d + 1) (a .n) (omega arith) (omega arith))
 
@@ -52,9 +58,6 @@ cast-out c = search needs
 slice-write-out-5 : tie.Need-slice-write-out-5
 slice-write-out-5 c = simp length-set (omega arith)
 
-cast-out-2 : tie.Need-cast-out-2
-cast-out-2 c = search needs
-
 slice-write-out-6 : tie.Need-slice-write-out-6
 slice-write-out-6 c = simp length-set (omega arith)
 
@@ -70,18 +73,24 @@ slice-write-out-9 c = simp length-set (omega arith)
 slice-write-out-10 : tie.Need-slice-write-out-10
 slice-write-out-10 c = simp length-set (omega arith)
 
+slice-write-out-11 : tie.Need-slice-write-out-11
+slice-write-out-11 c = simp length-set (omega arith)
+
 same-length : tie.Need-same-length
 same-length c = simp length-set
 
 returns : tie.Need-returns
 returns c =
-    let a = c .before .before .before .before .args in
-    header-stored (a .p) (a .d) (a .n) (a .terms) (a .r) _ _ _ (a .out .now) (c .before .before .before .before .pre .3) (c .before .before .polynomial-from .ensures) (c .before .factors-from .ensures) (c .total-of .ensures)
+    let b = c .before .before .before .before .before in
+    let a = b .args in
+    header-stored (a .p) (a .d) (a .n) (a .terms) (a .r) (a .reach) _ _ _ _ (a .out .now) (b .pre .3) (c .before .before .before .roots-from .ensures) (c .before .before .polynomial-from .ensures) (c .before .factors-from .ensures) (c .total-of .ensures)
 
 pub write-header-spec : {M : Type 1} → statement M
 write-header-spec =
     tie.close
     (tie.spec
+    roots-from-requires
+    cast-roots
     polynomial-from-requires
     cast-polynomial
     factors-from-requires
@@ -94,11 +103,11 @@ write-header-spec =
     slice-write-out-4
     cast-out
     slice-write-out-5
-    cast-out-2
     slice-write-out-6
     slice-write-out-7
     slice-write-out-8
     slice-write-out-9
     slice-write-out-10
+    slice-write-out-11
     same-length
     returns)

@@ -1,16 +1,15 @@
 -- `open::opening::check_shape` meets its contract: at each `return` the tests that led there say which row it is.
 -- Assumes nothing.
 use mathlib.Core.Path.{_≡_, _∙_, sym, ap}
-use mathlib.Core.Bool.{not}
 use mathlib.Core.List.{[], _∷_}
 use Prim.Native.Nat.{ℕ, _+_, _*_, _≤_}
 use native.Mathlib.Omega.{arith}
-use borrow.Author.Tests.{eq-eqb, ne-eqb}
+use borrow.Author.Tests.{not-false, eqb-true}
 use lib.ListN.{length}
 use Rattle.numbers.specs.Refusals.{judge, refusal, modulusChecks, widthCheck}
 use Rattle.numbers.specs.Limits.{largestDegree, largestWidth}
 use Rattle.numbers.specs.declared.refusal.Verdict.the-variants.{Refuse}
-use Rattle.numbers.proofs.RefusalsLaws.{after-pass, after-refuse, take-check, skip-check, inside, few-words}
+use Rattle.numbers.proofs.RefusalsLaws.{after-pass, after-refuse, take-check, skip-check, neither, inside, few-words}
 use Rattle.numbers.proofs.WordsLaws.{large-le}
 use Rattle.sheet.specs.Sheet.{Given, givenOf}
 use Rattle.open.specs.Open.{sizeChecks, polynomialChecks}
@@ -21,7 +20,7 @@ use Rattle.open.proofs.opening.check_shape.Tie as tie
 
 -- what is given
 abbrev given : tie.After-enum-told2 → Given
-given b = let a = b .before .before .before .before .before .args in givenOf (a .p) (a .d) (a .n) (a .rows .now) (a .roots .now)
+given b = let a = b .before .before .before .before .before .before .args in givenOf (a .p) (a .d) (a .n) (a .rows .now) (a .lengths .now) (a .roots .now)
 
 -- checks 1 and 2 have passed, and then 3, 4 and 5
 passed-2 : (b : tie.After-enum-told2) → judge (polynomialChecks (given b)) ≡ judge (sizeChecks (given b))
@@ -34,22 +33,25 @@ passed-4 : (b : tie.Else2) → let g = given (b .before .before .before .before)
 passed-4 b = passed-3 (b .before .before) ∙ skip-check _ _ (sym (b .before .outside2 .ensures) ∙ b .if2 .left)
 
 abbrev given-5 : tie.Else3 → Given
-given-5 b = given (b .before .before .before .before .before)
+given-5 b = given (b .before .before .before .before .before .before)
 
 passed-5 : (b : tie.Else3) → judge (polynomialChecks (given-5 b)) ≡ judge (wordsCheck (given-5 b) ∷ [])
-passed-5 b = passed-4 (b .before) ∙ skip-check _ _ (ap not (eq-eqb _ _ (b .if3 .left)))
+passed-5 b = passed-4 (b .before .before) ∙ skip-check _ _ (sym (b .before .other-words .ensures) ∙ b .if3 .left)
 
 -- the words of the rows are few
 degrees : (b : tie.Else1) → let g = given (b .before .before) in (1 ≤ g .D) × (g .D ≤ largestDegree)
 degrees b = inside 1 largestDegree _ (sym (b .before .outside .ensures) ∙ b .if1 .left)
 
+widths : (b : tie.Else2) → let g = given (b .before .before .before .before) in (1 ≤ g .N) × (g .N ≤ largestWidth)
+widths b = inside 1 largestWidth _ (sym (b .before .outside2 .ensures) ∙ b .if2 .left)
+
 small : (b : tie.Else2) → let g = given (b .before .before .before .before) in (g .D + 1) * g .N ≤ 8448
 small b =
     let g = given (b .before .before .before .before) in
-    few-words (g .D + 1) (g .N) (let d = degrees (b .before .before) .1 in omega arith) (inside 1 largestWidth _ (sym (b .before .outside2 .ensures) ∙ b .if2 .left) .1)
+    few-words (g .D + 1) (g .N) (let d = degrees (b .before .before) .1 in omega arith) (widths b .1)
 
 short : (b : tie.Else3) → length (given-5 b .rows) ≤ 8448
-short b = let l = b .if3 .left in let w = small (b .before) in omega arith
+short b = let g = given-5 b in let l = eqb-true (length (g .rows)) ((g .D + 1) * g .N) (not-false _ (neither _ _ (sym (b .before .other-words .ensures) ∙ b .if3 .left) .0)) in let w = small (b .before .before) in omega arith
 
 check-modulus-requires : tie.Need-check-modulus-requires
 check-modulus-requires c κs = search needs
@@ -60,7 +62,7 @@ enum-told c = search needs
 returns : tie.Need-returns
 returns c =
     let t = c .enum-told .given in
-    t .1 ∙ sym (after-refuse (modulusChecks (c .before .before .before .before .before .args .p)) _ _ (sym (c .before .before .check-modulus .ensures) ∙ t .1))
+    t .1 ∙ sym (after-refuse (modulusChecks (c .before .before .before .before .before .before .args .p)) _ _ (sym (c .before .before .check-modulus .ensures) ∙ t .1))
 
 enum-told-2 : tie.Need-enum-told-2
 enum-told-2 c = search needs
@@ -83,20 +85,14 @@ refuse-requires-2 c κs = search needs
 returns-3 : tie.Need-returns-3
 returns-3 c = c .refuse2 .ensures ∙ sym (passed-3 (c .before .before .before) ∙ take-check _ _ (sym (c .before .before .outside2 .ensures) ∙ c .before .if2 .taken))
 
-add-if3 : tie.Need-add-if3
-add-if3 c = let d = degrees (c .before .before) in omega arith
-
-mul-if3 : tie.Need-mul-if3
-mul-if3 c = let w = small c in omega arith
-
-cast-if3 : tie.Need-cast-if3
-cast-if3 c = let w = small c in omega arith
+other-words-requires : tie.Need-other-words-requires
+other-words-requires c κs = (degrees (c .before .before) .1, widths c .1)
 
 refuse-requires-3 : tie.Need-refuse-requires-3
 refuse-requires-3 c κs = search needs
 
 returns-4 : tie.Need-returns-4
-returns-4 c = c .refuse3 .ensures ∙ sym (passed-4 (c .before .before) ∙ take-check _ _ (ap not (ne-eqb _ _ (c .before .if3 .taken))))
+returns-4 c = c .refuse3 .ensures ∙ sym (passed-4 (c .before .before .before) ∙ take-check _ _ (sym (c .before .before .other-words .ensures) ∙ c .before .if3 .taken))
 
 first-large-requires : tie.Need-first-large-requires
 first-large-requires c κs = search needs
@@ -147,9 +143,7 @@ check-shape-spec =
     outside-requires-2
     refuse-requires-2
     returns-3
-    add-if3
-    mul-if3
-    cast-if3
+    other-words-requires
     refuse-requires-3
     returns-4
     first-large-requires

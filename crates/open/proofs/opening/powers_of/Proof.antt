@@ -6,16 +6,16 @@ use native.Mathlib.Omega.{arith}
 use lib.Seq.{length-take-le}
 use Rattle.numbers.specs.Limits.{mostRows}
 use Rattle.rows.proofs.RowsLaws.{zeros}
-use Rattle.sheet.specs.Sheet.{Given, givenOf}
+use Rattle.sheet.specs.Sheet.{Given, wholeOf}
 use Rattle.open.proofs.OpenChecksLaws.{ListPass, list-pass}
 use Rattle.open.proofs.PowersFoundLaws.{first-long, first-some, first-small, first-fits, first-below, first-top, powers-answer, load-fits}
 use borrow.Author.Needs.{needs}
 use Rattle.open.proofs.opening.powers_of.Statement.{statement}
 use Rattle.open.proofs.opening.powers_of.Tie as tie
 
--- what is given, and that it has passed refusals 1 to 8
+-- what is given, as if all were known, and that it has passed refusals 1 to 8
 abbrev given : tie.Start → Given
-given s = let a = s .args in givenOf (a .p) (a .d) (a .n) (a .rows .now) (a .roots .now)
+given s = let a = s .args in wholeOf (a .p) (a .d) (a .n) (a .rows .now) (a .roots .now)
 
 passed : (s : tie.Start) → ListPass (given s)
 passed s = list-pass (given s) (s .pre .0)

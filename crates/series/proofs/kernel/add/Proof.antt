@@ -1,11 +1,12 @@
 -- `series::kernel::add` meets its contract. The loop's invariant: out has the words of the sum before t, and past them what it had.
 -- Assumes nothing.
-use mathlib.Core.Path.{refl}
+use mathlib.Core.Path.{refl, sym, ap, _∙_}
 use Prim.Native.Nat.{_≤_, _-_, _+_, _%_}
 use native.Mathlib.Omega.{arith}
-use Rattle.numbers.specs.Words.{word, tabulate}
+use lib.ListN.{length}
+use Rattle.numbers.specs.Words.{word, tabulate, over}
 use Rattle.numbers.proofs.WordsLaws.{Writing, writing-none, writing-next, writing-all}
-use Rattle.series.specs.Series.{sums}
+use Rattle.series.proofs.SeriesLaws.{sums-whole}
 use borrow.Author.Needs.{needs}
 use Rattle.series.proofs.kernel.add.Statement.{statement}
 use Rattle.series.proofs.kernel.add.Tie as tie
@@ -57,8 +58,10 @@ same-length : tie.Need-same-length Inv-loop μ-loop
 same-length c = search needs
 
 returns : tie.Need-returns Inv-loop μ-loop
-unfolding sums
-returns c = writing-all _ _ _ _ _ (c .before .loop .inv .1) (omega arith)
+returns c =
+    let a = c .before .before .args in
+    let n = length (a .g .now) in
+    writing-all _ n _ _ _ (c .before .loop .inv .1) (omega arith) ∙ ap (λ s. over s (a .out .now)) (sym (sums-whole (a .p) n (a .g .now) (a .h .now)))
 
 pub add-spec : {M : Type 1} → statement M
 add-spec =

@@ -1,13 +1,14 @@
 -- `series::kernel::multiply` meets its contract. The loop's invariant: out has the columns of the product before t, and past them what it had.
 -- Assumes nothing.
-use mathlib.Core.Path.{ap, _∙_}
+use mathlib.Core.Path.{sym, ap, _∙_}
 use Prim.Native.Nat.{ℕ, _≤_, _-_, _%_}
 use native.Mathlib.Nat.{mod-lt}
 use native.Mathlib.Omega.{arith}
-use Rattle.numbers.specs.Words.{tabulate}
+use lib.ListN.{length}
+use Rattle.numbers.specs.Words.{tabulate, over}
 use Rattle.numbers.proofs.WordsLaws.{Writing, writing-none, writing-next, writing-all}
-use Rattle.series.specs.Series.{productColumn, product}
-use Rattle.series.proofs.SeriesLaws.{dot-column}
+use Rattle.series.specs.Series.{productColumn}
+use Rattle.series.proofs.SeriesLaws.{dot-column, product-whole}
 use borrow.Author.Needs.{needs}
 use Rattle.series.proofs.kernel.multiply.Statement.{statement}
 use Rattle.series.proofs.kernel.multiply.Tie as tie
@@ -58,8 +59,10 @@ same-length : tie.Need-same-length Inv-loop μ-loop
 same-length c = search needs
 
 returns : tie.Need-returns Inv-loop μ-loop
-unfolding product
-returns c = writing-all _ _ _ _ _ (c .before .loop .inv .1) (omega arith)
+returns c =
+    let a = c .before .before .before .before .before .args in
+    let n = length (a .g .now) in
+    writing-all _ n _ _ _ (c .before .loop .inv .1) (omega arith) ∙ ap (λ s. over s (a .out .now)) (sym (product-whole (a .p) n (a .g .now) (a .h .now)))
 
 pub multiply-spec : {M : Type 1} → statement M
 multiply-spec =

@@ -3,7 +3,7 @@
 use mathlib.Core.Path.{sym}
 use native.Mathlib.Omega.{arith}
 use Rattle.numbers.specs.Words.{word}
-use Rattle.sheet.proofs.SoundStagesLaws.{up-low, up-high}
+use Rattle.numbers.proofs.WordsLaws.{up-low, up-high}
 use borrow.Author.Needs.{needs}
 use Rattle.sheet.proofs.kernel.cut_word.Statement.{statement}
 use Rattle.sheet.proofs.kernel.cut_word.Tie as tie

@@ -6,9 +6,8 @@ use native.Mathlib.Omega.{arith}
 use borrow.Author.Count.{below-more}
 use borrow.Author.Needs.{needs}
 use lib.ListN.{length}
-use Rattle.numbers.specs.Words.{word}
+use Rattle.numbers.specs.Words.{word, upTo}
 use Rattle.numbers.proofs.TestsLaws.{decides-yes, decides-no}
-use Rattle.sheet.specs.internal.Stages.{upTo}
 use Rattle.sheet.proofs.kernel.same_row.Statement.{statement}
 use Rattle.sheet.proofs.kernel.same_row.Tie as tie
 

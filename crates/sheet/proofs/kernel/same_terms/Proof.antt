@@ -8,7 +8,7 @@ use borrow.Author.Tests.{not-true, not-false}
 use Rattle.numbers.proofs.TestsLaws.{decides-yes, decides-no}
 use Rattle.numbers.proofs.RefusalsLaws.{few-words}
 use Rattle.rows.proofs.RowsLaws.{row-fits}
-use Rattle.sheet.proofs.SoundStagesLaws.{RowSame, row-long, row-same, row-back}
+use Rattle.sheet.proofs.SoundStagesLaws.{RowSame, row-whole, row-same, row-back}
 use borrow.Author.Needs.{needs}
 use Rattle.sheet.proofs.kernel.same_terms.Statement.{statement}
 use Rattle.sheet.proofs.kernel.same_terms.Tie as tie
@@ -60,8 +60,8 @@ same-row-requires : tie.Need-same-row-requires Inv-loop μ-loop
 same-row-requires c κs =
     let b = c .before .before in
     let a = b .before .before .before .before .args in
-    let e = row-long (b .before .loop .j) (a .d) (a .n) (a .stored .now) (omega arith) (b .before .before .before .before .pre .2) in
-    (row-long (b .before .loop .j) (a .d) (a .n) (a .computed .now) (omega arith) (b .before .before .before .before .pre .3) ∙ sym e, omega arith)
+    let e = row-whole (b .before .loop .j) (a .d) (a .n) (a .stored .now) (omega arith) (b .before .before .before .before .pre .2) in
+    (row-whole (b .before .loop .j) (a .d) (a .n) (a .computed .now) (omega arith) (b .before .before .before .before .pre .3) ∙ sym e, omega arith)
 
 returns : tie.Need-returns Inv-loop μ-loop
 returns c =

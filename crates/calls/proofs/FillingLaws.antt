@@ -1,0 +1,148 @@
+-- Filling in what is not known: the known lengths say how far the factors are determined.
+--   filled-opens   a polynomial that open accepts is accepted when it is filled in
+--   filled-same, filled-own   every way of filling in gives the same factors below the least known length, which are those of the sheet itself
+--   filled-apart   and some two ways differ at the next column
+-- Assumes nothing.
+use Prim.Native.Nat.{ℕ, zero, _+_, _*_, _≤_, _<_}
+use native.Mathlib.Nat.{eq-or-lt-of-le}
+use native.Mathlib.Omega.{arith}
+use mathlib.Core.Path.{_≡_, refl, sym, _∙_, ap, subst, fun-ext}
+use mathlib.Core.Logic.{_≢_, ⊎-elim}
+use mathlib.Core.List.{List}
+use lib.Dec.{eqb}
+use lib.ListN.{length, set, length-set}
+use lib.Seq.{getD-set-same, getD-set-other}
+use Rattle.numbers.specs.Words.{word}
+use Rattle.numbers.specs.declared.refusal.Verdict.the-variants.{Pass}
+use Rattle.numbers.proofs.WordsLaws.{lt-or-ge, least-le, least-at, least-there}
+use Rattle.numbers.proofs.TestsLaws.{allTo-ext}
+use Rattle.numbers.proofs.RefusalsLaws.{reduced, below-reduced}
+use Rattle.rows.proofs.RowsLaws.{row-fits}
+use Rattle.tiles.proofs.TileLaws.{set-below}
+use Rattle.hensel.specs.Factors.{split}
+use Rattle.layout.proofs.RegionsLaws.{in-rows}
+use Rattle.sheet.specs.Sheet.{Given, given-reach, given-polynomial}
+use Rattle.sheet.proofs.HoldsLaws.{holds-reach}
+use Rattle.open.specs.Open.{choices, find, splitsTest, powersOf, needed, openVerdict}
+use Rattle.open.proofs.OpenChecksLaws.{ListPass, list-passes, whole-list}
+use Rattle.open.proofs.OpenSplitLaws.{split-pass}
+use Rattle.open.proofs.OpeningLaws.{open-passed}
+use Rattle.calls.specs.Calls.{SameGiven}
+use Rattle.calls.specs.Filling.{filled, Fills, SameFilled, OwnFilled, ApartFilled}
+use Rattle.calls.proofs.Demand3Laws.{holds-agree}
+
+-- below the least known length all is known
+fills-agree : (g : Given) (rows : List ℕ) → Fills g rows → (j : ℕ) → j ≤ given-reach g → SameGiven j g (filled g rows)
+fills-agree g rows F j r = record {
+  degrees = refl;
+  columns = λ q l t v. ⊎-elim
+      (λ (e : q ≡ g .D). subst (λ x. given-polynomial g x t ≡ given-polynomial (filled g rows) x t) (sym e) (sym (F .top t (omega (arith, least-le (g .N) (word (g .lengths)) (g .D))))))
+      (λ (u : q < g .D). sym (F .known q u t (omega (arith, least-at (g .N) (word (g .lengths)) (g .D) q u))))
+      (eq-or-lt-of-le l);
+}
+
+pub filled-same : (g : Given) → SameFilled g
+filled-same g a b A B k w s u h h′ j low lk lw r =
+    let x = fills-agree g a A j r in
+    let y = fills-agree g b B j r in
+    holds-agree (filled g a) (filled g b) k w s u h h′ refl j low lk lw .1 (record { degrees = refl; columns = λ q l t v. sym (x .columns q l t v) ∙ y .columns q l t v })
+
+pub filled-own : (g : Given) → OwnFilled g
+filled-own g a A k w s u h h′ j low lk lw =
+    let r = holds-reach g k s h in
+    let m = h .sound .terms-high in
+    let e = h .same-terms in
+    holds-agree g (filled g a) k w s u h h′ refl j low lk lw .1 (fills-agree g a A j (omega arith))
+
+-- a polynomial that open accepts
+module _ (g : Given) (h : ListPass g) where
+  abbrev N : ℕ
+  N = g .N
+
+  module _ (rows : List ℕ) (F : Fills g rows) where
+    abbrev f : Given
+    f = filled g rows
+
+    filled-list : ListPass f
+    filled-list = whole-list g h rows (F .long) (reduced (g .p) rows (F .reduced)) (λ t l. F .top t l ∙ h .top t l)
+
+    -- every row is known at X = 0
+    column-zero : (j : ℕ) → j ≤ g .D → given-polynomial f j zero ≡ given-polynomial g j zero
+    column-zero j l =
+        ⊎-elim
+        (λ (e : j ≡ g .D). subst (λ x. given-polynomial f x zero ≡ given-polynomial g x zero) (sym e) (F .top zero (h .polynomial .width-low)))
+        (λ (u : j < g .D). F .known j u zero (h .lengths j u .low))
+        (eq-or-lt-of-le l)
+
+    tests-same : (l : List ℕ) → splitsTest f l ≡ splitsTest g l
+    unfolding splitsTest
+    tests-same l = allTo-ext _ _ _ (λ j u. ap (eqb (split (g .p) (length (g .roots)) (word (g .roots)) (word l) j)) (column-zero j (omega arith)))
+
+    powers-same : powersOf f ≡ powersOf g
+    unfolding powersOf
+    powers-same = ap (λ test. find test (choices (length (g .roots)) (g .D))) (fun-ext tests-same)
+
+  own : Fills g (g .rows)
+  own = record { long = h .polynomial .long; reduced = below-reduced (g .p) (g .rows) (h .polynomial .rows-below); known = λ j l t u. refl; top = λ t l. refl }
+
+  -- one entry that is not known, made 1: row j is known to m terms
+  module _ (j m : ℕ) (low : j < g .D) (is : word (g .lengths) j ≡ m) (short : m < N) where
+    abbrev place : ℕ
+    place = 0 + j * N + m
+
+    abbrev other : List ℕ
+    other = set (g .rows) place 1
+
+    fits : place < length (g .rows)
+    fits = omega (arith, h .polynomial .long, in-rows (g .D + 1) N j m (omega arith) short)
+
+    -- words of other rows, and of other columns, stand elsewhere
+    row-apart : (i t : ℕ) → t < N → i ≢ j → 0 + i * N + t ≢ place
+    row-apart i t l ne e =
+        ⊎-elim (λ (u : i < j). let z : ⊥ = omega (arith, row-fits i j N u) in z)
+        (λ (u : j ≤ i). ⊎-elim (λ (q : j ≡ i). ne (sym q)) (λ (v : j < i). let z : ⊥ = omega (arith, row-fits j i N v) in z) (eq-or-lt-of-le u))
+        (lt-or-ge i j)
+
+    elsewhere : (i t : ℕ) → 0 + i * N + t ≢ place → given-polynomial (filled g other) i t ≡ given-polynomial g i t
+    elsewhere i t ne = getD-set-other (g .rows) place (0 + i * N + t) 1 0 ne
+
+    column-apart : (i t : ℕ) → i < g .D → t < word (g .lengths) i → 0 + i * N + t ≢ place
+    column-apart i t l u e =
+        let v = h .lengths i l .high in
+        ⊎-elim
+        (λ (w : i < j). row-apart i t (omega arith) (omega arith) e)
+        (λ (w : j ≤ i). ⊎-elim
+        (λ (q : j ≡ i). let y = ap (λ x. x * N) q in let x = ap (word (g .lengths)) q in let z : ⊥ = omega arith in z)
+        (λ (w : j < i). row-apart i t (omega arith) (omega arith) e)
+        (eq-or-lt-of-le w))
+        (lt-or-ge i j)
+
+    made : Fills g other
+    made = record {
+      long = length-set (g .rows) place 1 ∙ h .polynomial .long;
+      reduced = below-reduced (g .p) other (set-below (g .p) (g .rows) place 1 (h .polynomial .modulus .prime .two-le) (h .polynomial .rows-below));
+      known = λ i l t u. elsewhere i t (column-apart i t l u);
+      top = λ t l. elsewhere (g .D) t (row-apart (g .D) t l (omega arith));
+    }
+
+    apart : given-polynomial (filled g (g .rows)) j m ≢ given-polynomial (filled g other) j m
+    apart e = let a = h .lengths j low .rest m (omega arith) short in let b = getD-set-same (g .rows) place 1 0 fits in let z : ⊥ = omega (arith, e) in z
+
+pub filled-opens : (g : Given) (rows : List ℕ) → openVerdict g (needed g) ≡ Pass → Fills g rows → openVerdict (filled g rows) (needed (filled g rows)) ≡ Pass
+filled-opens g rows pass F =
+    let a = open-passed g (needed g) pass in
+    split-pass (filled g rows) (needed (filled g rows)) (list-passes (filled g rows) (filled-list g (a .list) rows F)) (a .found) (powers-same g (a .list) rows F ∙ a .found-is) (omega arith)
+
+pub filled-apart : (g : Given) → openVerdict g (needed g) ≡ Pass → given-reach g < g .N → ApartFilled g
+filled-apart g pass short =
+    let h = open-passed g (needed g) pass .list in
+    let m = given-reach g in
+    let (j, low, is) = least-there (g .N) (word (g .lengths)) (g .D) short in (
+      g .rows,
+      set (g .rows) (0 + j * g .N + m) 1,
+      own g h,
+      made g h j m low is short,
+      λ k w s u hs hu lk lw same.
+          let c = holds-agree (filled g (g .rows)) (filled g (set (g .rows) (0 + j * g .N + m) 1)) k w s u hs hu refl (m + 1) (omega arith) (omega arith) (omega arith) .0 same in
+          apart g h j m low is short (c .columns j (omega arith) m (omega arith)),
+    )
