@@ -29,8 +29,7 @@ use Rattle.series.proofs.KnownLaws.{rows-known-test, rows-known-ext}
 use Rattle.layout.specs.declared.Header.{Header}
 use Rattle.layout.specs.Layout.{rowsAt, modulus, degree, width, count, known, lengthsFrom, polynomialFrom, polynomial}
 use Rattle.layout.specs.internal.Places.{HeaderIs, Placed}
-use Rattle.layout.proofs.PlacesLaws.{lower-within, header-polynomial, header-size}
-use Rattle.layout.proofs.RegionsLaws.{in-rows}
+use Rattle.layout.proofs.PlacesLaws.{lower-long, lower-word, header-polynomial, header-size}
 use Rattle.front.specs.internal.Front.{OneTo, HeaderFits, PowersFit, Shape, RootsBelow, RootsRise, RowsBelow, topFrom, LengthsFit}
 
 pub modulus-small : (p : ℕ) → judge (modulusChecks p) ≡ Pass → p ≤ largestModulus
@@ -146,17 +145,13 @@ module _ (s : List ℕ) (h : Header) (e : HeaderIs s h) where
     lengths-long = ap length l ∙ length-take-le (degree s) (drop lengthsFrom s) (let z = g .header .roomy in omega (arith, length-drop lengthsFrom s))
 
     pub rows-long : length rows ≡ degree s * width s
-    rows-long =
-        ap length r ∙ length-take-le (degree s * width s) (drop (polynomialFrom (degree s) (count s)) s)
-        (omega (arith, length-drop (polynomialFrom (degree s) (count s)) s, lower-within s (shape-placed s g)))
+    rows-long = lower-long s (shape-placed s g) rows r
 
     length-is : (j : ℕ) → j < degree s → word lengths j ≡ known s j
     length-is j u = ap (λ x. word x j) l ∙ word-part s lengthsFrom (degree s) j u
 
     row-is : (j : ℕ) → j < degree s → (t : ℕ) → t < width s → rowsAt rows 0 (width s) j t ≡ polynomial s j t
-    row-is j u t v =
-        ap (λ x. word x (0 + j * width s + t)) r ∙ word-part s (polynomialFrom (degree s) (count s)) (degree s * width s) (0 + j * width s + t) (omega (arith, in-rows (degree s) (width s) j t u v))
-        ∙ ap (word s) (let z : polynomialFrom (degree s) (count s) + (0 + j * width s + t) ≡ polynomialFrom (degree s) (count s) + j * width s + t = omega arith in z)
+    row-is j u t v = ap (word rows) (let z : 0 + j * width s + t ≡ j * width s + t = omega arith in z) ∙ lower-word s (shape-placed s g) rows r j u t v
 
     found-rows : rowsKnown (h .width) (length lengths) (word lengths) (rowsAt rows 0 (h .width)) ≡ rowsKnown (width s) (degree s) (known s) (polynomial s)
     found-rows = rw (e .width-is, lengths-long) (rows-known-ext (width s) (degree s) (word lengths) (known s) (rowsAt rows 0 (width s)) (polynomial s) length-is row-is)

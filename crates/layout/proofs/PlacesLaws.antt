@@ -2,6 +2,7 @@
 --   placed-entries     the roots and powers are there
 --   upto-power, each-power, rows-before   the powers up to one, one, and those before it come to at most the degree
 --   lower-within, factors-within   the polynomial's lower rows and the factors' rows end within the slice
+--   lower-long, lower-word   the polynomial's lower rows as they are lent
 --   factor-within      the rows of a factor end within the slice
 --   factor-small       and the products on the way there are small
 --   header-polynomial, header-factors, header-end, header-size   the places that a header read by value gives
@@ -14,13 +15,17 @@ use native.Mathlib.Nat.{add-sub-cancel-left, mul-le-mul, mul-le-mul-right, add-m
 use native.Mathlib.Omega.{arith}
 use mathlib.Core.Path.{_≡_, _∙_, ap, ap₂}
 use mathlib.Core.List.{List}
-use lib.ListN.{length, take, drop}
+use lib.ListN.{length, take, drop, length-drop}
+use lib.Seq.{length-take-le}
 use Rattle.algebra.specs.Sums.{sumTo}
 use Rattle.algebra.proofs.SumsLaws.{sumTo-suc, sumTo-mono}
 use Rattle.numbers.specs.Limits.{largestDegree, largestWidth}
+use Rattle.numbers.specs.Words.{word, part}
+use Rattle.numbers.proofs.WordsLaws.{word-part}
 use Rattle.numbers.proofs.RefusalsLaws.{few-words}
+use Rattle.rows.proofs.RowsLaws.{row-fits}
 use Rattle.layout.specs.declared.Header.{Header}
-use Rattle.layout.specs.Layout.{degree, width, count, power, end, polynomialFrom, factorsFrom, total, factorFrom, factorSize, factorPart}
+use Rattle.layout.specs.Layout.{degree, width, count, power, polynomial, end, polynomialFrom, factorsFrom, total, factorFrom, factorSize, factorPart}
 use Rattle.layout.specs.internal.Places.{Placed, HeaderIs}
 
 -- as many as there are numbers, each 1 or more, is at most their sum
@@ -67,6 +72,19 @@ module _ (s : List ℕ) (h : Placed s) where
 
   pub lower-within : polynomialFrom (degree s) (count s) + degree s * width s ≤ length s
   lower-within = let l = h .long in omega arith
+
+  -- the polynomial's lower rows as they are lent
+  module _ (lower : List ℕ) (e : lower ≡ part s (polynomialFrom (degree s) (count s)) (degree s * width s)) where
+    pub lower-long : length lower ≡ degree s * width s
+    lower-long =
+        let from = polynomialFrom (degree s) (count s) in
+        ap length e ∙ length-take-le (degree s * width s) (drop from s) (omega (arith, length-drop from s, lower-within))
+
+    pub lower-word : (j : ℕ) → j < degree s → (t : ℕ) → t < width s → word lower (j * width s + t) ≡ polynomial s j t
+    lower-word j l t u =
+        let from = polynomialFrom (degree s) (count s) in
+        ap (λ x. word x (j * width s + t)) e ∙ word-part s from (degree s * width s) (j * width s + t) (omega (arith, row-fits j (degree s) (width s) l))
+        ∙ ap (word s) (let z : from + (j * width s + t) ≡ from + j * width s + t = omega arith in z)
 
   pub factors-within : factorsFrom (degree s) (width s) (count s) + degree s * width s ≤ length s
   factors-within = let l = h .long in omega arith

@@ -8,13 +8,12 @@ use Prim.Native.Nat.{ℕ, zero, suc, _+_, _-_, _*_, _/_, _%_, _≤_, _<_}
 use native.Mathlib.Nat.{lt-of-not-le, mod-lt, div-lt-iff-lt-mul, div-add-mod'}
 use native.Mathlib.Decide.{decLe}
 use native.Mathlib.Omega.{arith}
-use mathlib.Core.Path.{_≡_, sym, ap, subst, _∙_}
+use mathlib.Core.Path.{_≡_, sym, subst}
 use mathlib.Core.List.{List}
-use lib.ListN.{length, take, drop, length-drop}
-use lib.Seq.{length-take-le}
+use lib.ListN.{length, take, drop}
 use Rattle.numbers.specs.Words.{word}
 use Rattle.numbers.proofs.WordsLaws.{word-part}
-use Rattle.rows.proofs.RowsLaws.{row-fits}
+use Rattle.rows.proofs.RowsLaws.{length-part, row-fits}
 use Rattle.layout.specs.Layout.{lengthsFrom, rootsFrom, polynomialFrom, factorsFrom, total}
 
 -- word t of row j, of R rows of N
@@ -30,9 +29,7 @@ module _ (j N : ℕ) (s : List ℕ) where
   row-word t l = word-part s (j * N) (j * N + N - j * N) t (omega arith)
 
   pub row-long : j * N + N ≤ length s → length (rowPart N j s) ≡ N
-  row-long h =
-      let z : j * N + N - j * N ≡ N = omega arith in
-      ap (λ x. length (take x (drop (j * N) s))) z ∙ length-take-le N (drop (j * N) s) (omega (arith, length-drop (j * N) s))
+  row-long h = length-part s (j * N) N h
 
 record Place (o N R i : ℕ) : Type 0 where
   row : ℕ

@@ -4,7 +4,7 @@
 --   opened-holds, extended-holds   an accepted open, and then extend to N, leave a sheet that holds what the job gives
 --   text-refused, text-listed  the text under a verdict
 --   wrote-refused, wrote-listed, given-listable   after open: its refusal, or else extend to N
---   repeated-fits, repeated-first   the first words of an array, all made one
+--   made-fits, made-first      the first words of an array, where a function made them; loaded-first, loaded-long where they are a job's
 --   wrote-early, wrote-job     the text of a job, by its own checks or by open's
 --   listed-fits, listed-never  an accepted listing is within its room; `textRoom` bytes are always enough
 --   listing-same               two sheets that hold it have one listing
@@ -287,34 +287,27 @@ module _ (g : Given) (whole : given-reach g ≡ g .N) (old mid : List ℕ) (a : 
   wrote-listed T w b new is e x f =
       record { text = listingText new; is = text-listed (openVerdict g sheetRoom) g new (passed T is) (holds-all T w b new is e x); puts = f }
 
--- one word, over and over, in the first d words of an array
-module _ (d n : ℕ) (zeros new : List ℕ) (fits : d ≤ length zeros) (is : new ≡ tabulate (length (take d zeros)) (λ _. n)) where
-  repeated : new ≡ tabulate d (λ _. n)
-  repeated = is ∙ ap (λ (k : ℕ). tabulate k (λ _. n)) (length-take-le d zeros fits)
+-- the first m words of an array, made by a function that was lent them
+module _ (m : ℕ) (f : ℕ → ℕ) (zeros new : List ℕ) (fits : m ≤ length zeros) (is : new ≡ tabulate (length (take m zeros)) f) where
+  made : new ≡ tabulate m f
+  made = is ∙ ap (λ (k : ℕ). tabulate k f) (length-take-le m zeros fits)
 
-  repeated-long : length new ≡ d
-  repeated-long = ap length repeated ∙ length-tabulate d (λ _. n)
+  made-long : length new ≡ m
+  made-long = ap length made ∙ length-tabulate m f
 
-  pub repeated-fits : d ≤ length (new ++ drop d zeros)
-  repeated-fits = omega (arith, length-append new (drop d zeros), repeated-long)
+  pub made-fits : m ≤ length (new ++ drop m zeros)
+  made-fits = omega (arith, length-append new (drop m zeros), made-long)
 
-  pub repeated-first : take d (new ++ drop d zeros) ≡ tabulate d (λ _. n)
-  repeated-first = take-at new (drop d zeros) d repeated-long ∙ repeated
+  pub made-first : take m (new ++ drop m zeros) ≡ tabulate m f
+  made-first = take-at new (drop m zeros) m made-long ∙ made
 
--- the words of a job, where they were loaded into the first m words of an array
+-- so the words of a job, where they were loaded
 pub loaded-first : (b : List ℕ) (from o m k : ℕ) (zeros new : List ℕ) → m ≤ length zeros → from ≡ o → m ≡ k → new ≡ fields b from (length (take m zeros))
     → take m (new ++ drop m zeros) ≡ fields b o k
-loaded-first b from o m k zeros new h e f is =
-    let n : length (take m zeros) ≡ m = length-take-le m zeros h in
-    let w : new ≡ fields b o k = is ∙ ap₂ (λ (x y : ℕ). fields b x y) e (n ∙ f) in
-    let l : length new ≡ m = ap length w ∙ length-tabulate k (λ i. field b (o + i)) ∙ sym f in
-    take-at new (drop m zeros) m l ∙ w
+loaded-first b from o m k zeros new h e f is = made-first m (λ i. field b (from + i)) zeros new h is ∙ ap₂ (λ (x y : ℕ). fields b x y) e f
 
 pub loaded-long : (b : List ℕ) (from m : ℕ) (zeros new : List ℕ) → m ≤ length zeros → new ≡ fields b from (length (take m zeros)) → m ≤ length (new ++ drop m zeros)
-loaded-long b from m zeros new h is =
-    let n = length-take-le m zeros h in
-    let l = ap length is ∙ length-tabulate (length (take m zeros)) (λ i. field b (from + i)) in
-    omega (arith, length-append new (drop m zeros))
+loaded-long b from m zeros new h is = made-fits m (λ i. field b (from + i)) zeros new h is
 
 pub load-fits : (b : List ℕ) (f : Form) (from m end : ℕ) (zeros : List ℕ) → FormIs b f → m ≤ length zeros → from + m ≤ end → end ≤ mostFields → place b end ≤ length b
     → FormIs b f × (from + length (take m zeros) ≤ mostFields) × (place b (from + length (take m zeros)) ≤ length b)

@@ -64,10 +64,6 @@ unit-fails s t l ne = sym (allTo-false (length s) (λ t. eqb (word s t) (unit t)
 pub unit-passes : (s : List ℕ) (n : ℕ) → length s ≤ n → ((k : ℕ) → k < n → word s k ≡ unit k) → true ≡ isUnit s
 unit-passes s n l h = sym (eqs (length s) (word s) unit .1 (λ k g. h k (omega arith)))
 
-pub unit-later : (t : ℕ) → 1 ≤ t → unit t ≡ 0
-unit-later zero l = absurd (let z : ⊥ = omega arith in z)
-unit-later (suc t) l = refl
-
 pub rising-fails : (s : List ℕ) (i : ℕ) → 1 ≤ i → i < length s → word s i ≤ word s (i - 1) → false ≡ rising s
 rising-fails s zero l g h = absurd (let z : ⊥ = omega arith in z)
 rising-fails s (suc i) l g h =

@@ -3,7 +3,7 @@
 --   worked-out    what it finds
 --   loaded, loaded-sum   the roots and powers as they are read from the sheet
 --   lower-rows    and the polynomial's rows
---   pairs-long, lower-long, all-long   the parts that are read have their length
+--   pairs-long, all-long   the parts that are read have their length
 -- Assumes nothing.
 use Prim.Native.Nat.{ℕ, zero, suc, _+_, _-_, _*_, _≤_, _<_}
 use native.Mathlib.Nat.{eq-or-lt-of-le, zero-add}
@@ -21,7 +21,7 @@ use Rattle.numbers.specs.Words.{word, tabulate, over, part}
 use Rattle.numbers.specs.internal.Facts.{AllBelow}
 use Rattle.numbers.proofs.WordsLaws.{length-tabulate, word-tabulate, over-whole, word-part}
 use Rattle.rows.specs.Rows.{unit, monic}
-use Rattle.rows.proofs.RowsLaws.{by-row, row-fits}
+use Rattle.rows.proofs.RowsLaws.{by-row}
 use Rattle.rows.proofs.MonicLaws.{monic-low, monic-top}
 use Rattle.hensel.specs.Factors.{split, IsFactors}
 use Rattle.solution.specs.internal.Table.{rowsFrom}
@@ -30,7 +30,7 @@ use Rattle.hensel.proofs.FactorsLaws.{factors-ext, split-ext}
 use Rattle.layout.specs.declared.Header.{Header}
 use Rattle.layout.specs.Layout.{modulus, degree, width, count, rootsFrom, polynomialFrom, factorsFrom, root, power, polynomial}
 use Rattle.layout.specs.internal.Places.{HeaderIs, Placed}
-use Rattle.layout.proofs.PlacesLaws.{lower-within, factors-within}
+use Rattle.layout.proofs.PlacesLaws.{lower-long, lower-word, factors-within}
 use Rattle.front.specs.internal.Front.{topFrom, Front}
 use Rattle.sheet.specs.internal.Stages.{SplitFits, Loaded, blockRows, Computed, WorkedOut}
 
@@ -148,9 +148,6 @@ module _ (s : List ℕ) (h : Front s) where
 pub pairs-long : (s pairs : List ℕ) (r : ℕ) → pairs ≡ part s (rootsFrom (degree s)) (2 * r) → polynomialFrom (degree s) r ≤ length s → length pairs ≡ 2 * r
 pairs-long s pairs r e l = ap length e ∙ length-take-le (2 * r) (drop (rootsFrom (degree s)) s) (omega (arith, length-drop (rootsFrom (degree s)) s))
 
-pub lower-long : (s : List ℕ) → Placed s → (lower : List ℕ) → lower ≡ part s (polynomialFrom (degree s) (count s)) (degree s * width s) → length lower ≡ degree s * width s
-lower-long s h lower e = ap length e ∙ length-take-le (degree s * width s) (drop (polynomialFrom (degree s) (count s)) s) (omega (arith, length-drop (polynomialFrom (degree s) (count s)) s, lower-within s h))
-
 pub all-long : (s : List ℕ) → Placed s → (all : List ℕ) → all ≡ part s (factorsFrom (degree s) (width s) (count s)) (degree s * width s) → length all ≡ degree s * width s
 all-long s h all e =
     let from = factorsFrom (degree s) (width s) (count s) in
@@ -175,13 +172,6 @@ loaded s roots powers pairs r m n e em en q qr qp = record {
 pub lower-rows : (s : List ℕ) → Placed s → (lower old new : List ℕ) → length old ≡ degree s * width s → lower ≡ part s (polynomialFrom (degree s) (count s)) (degree s * width s)
     → new ≡ over lower old → LowerRows s new
 lower-rows s h lower old new n e q =
-    let size = degree s * width s in
-    let from = polynomialFrom (degree s) (count s) in
     let long = lower-long s h lower e in
-    let w : new ≡ part s from size = q ∙ over-whole lower old (long ∙ sym n) ∙ e in
-    record {
-      long = ap length w ∙ sym (ap length e) ∙ long;
-      are = λ j l t g.
-          ap (λ x. word x (j * width s + t)) w ∙ word-part s from size (j * width s + t) (omega (arith, row-fits j (degree s) (width s) l))
-          ∙ ap (word s) (omega arith);
-    }
+    let w : new ≡ lower = q ∙ over-whole lower old (long ∙ sym n) in
+    record { long = ap length w ∙ long; are = λ j l t g. ap (λ x. word x (j * width s + t)) w ∙ lower-word s h lower e j l t g }

@@ -8,7 +8,7 @@ use Rattle.numbers.specs.Refusals.{outcome}
 use Rattle.numbers.proofs.WordsLaws.{length-tabulate}
 use Rattle.sheet.specs.Sheet.{givenOf}
 use Rattle.open.specs.Open.{Opened}
-use Rattle.listing.proofs.ListingLaws.{repeated-fits, repeated-first}
+use Rattle.listing.proofs.ListingLaws.{made-fits, made-first}
 use borrow.Author.Needs.{needs}
 use Rattle.listing.proofs.open_known.Statement.{statement}
 use Rattle.listing.proofs.open_known.Tie as tie
@@ -23,10 +23,10 @@ repeat-requires : tie.Need-repeat-requires
 repeat-requires c κs = search needs
 
 array-share-prefix-lengths : tie.Need-array-share-prefix-lengths
-array-share-prefix-lengths c = let s = c .before .before .before .before .before .before in repeated-fits (s .args .d) (s .args .n) _ _ (let d = s .pre in omega arith) (c .before .repeat .ensures)
+array-share-prefix-lengths c = let s = c .before .before .before .before .before .before in made-fits (s .args .d) (λ _. s .args .n) _ _ (let d = s .pre in omega arith) (c .before .repeat .ensures)
 
 slice-aggregate-open : tie.Need-slice-aggregate-open
-slice-aggregate-open c = let s = c .before .before .before .before .before .before .before in sym (ap length (repeated-first (s .args .d) (s .args .n) _ _ (let d = s .pre in omega arith) (c .before .before .repeat .ensures)) ∙ length-tabulate (s .args .d) _)
+slice-aggregate-open c = let s = c .before .before .before .before .before .before .before in sym (ap length (made-first (s .args .d) (λ _. s .args .n) _ _ (let d = s .pre in omega arith) (c .before .before .repeat .ensures)) ∙ length-tabulate (s .args .d) _)
 
 open-requires : tie.Need-open-requires
 open-requires c κs = search needs
@@ -39,7 +39,7 @@ returns c =
     let s = c .before .before .before .before .before .before .before .before .before .before .before in
     let a = s .args in
     subst (λ lengths. Opened (givenOf (a .p) (a .d) (a .n) (a .rows .now) lengths (a .roots .now)) (a .sheet .now) (outcome (c .before .before .«open» .result)) (c .before .before .«open» .last .1 .1 .1 .1 .1 .1 .0))
-    (repeated-first (a .d) (a .n) _ _ (let d = s .pre in omega arith) (c .before .before .before .before .before .before .repeat .ensures)) (c .before .before .«open» .ensures)
+    (made-first (a .d) (λ _. a .n) _ _ (let d = s .pre in omega arith) (c .before .before .before .before .before .before .repeat .ensures)) (c .before .before .«open» .ensures)
 
 pub open-known-spec : {M : Type 1} → statement M
 open-known-spec =

@@ -7,7 +7,8 @@ use lib.ListN.{length}
 use borrow.Author.Count.{below-more}
 use Rattle.numbers.specs.Words.{word}
 use Rattle.rows.specs.Rows.{unit}
-use Rattle.open.proofs.OpenChecksLaws.{unit-fails, unit-passes, unit-later, one-first}
+use Rattle.sheet.proofs.WorkLaws.{unit-later}
+use Rattle.open.proofs.OpenChecksLaws.{unit-fails, unit-passes, one-first}
 use borrow.Author.Needs.{needs}
 use Rattle.open.proofs.opening.is_unit.Statement.{statement}
 use Rattle.open.proofs.opening.is_unit.Tie as tie

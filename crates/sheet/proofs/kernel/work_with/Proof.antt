@@ -5,7 +5,8 @@ use Prim.Native.Nat.{_+_}
 use native.Mathlib.Omega.{arith}
 use Rattle.layout.specs.internal.Places.{Placed}
 use Rattle.front.proofs.FrontLaws.{shape-placed}
-use Rattle.sheet.proofs.WorkLaws.{LowerRows, lower-long, lower-rows, loaded-sum, work-listed, worked-out}
+use Rattle.layout.proofs.PlacesLaws.{lower-long}
+use Rattle.sheet.proofs.WorkLaws.{LowerRows, lower-rows, loaded-sum, work-listed, worked-out}
 use borrow.Author.Needs.{needs}
 use Rattle.sheet.proofs.kernel.work_with.Statement.{statement}
 use Rattle.sheet.proofs.kernel.work_with.Tie as tie
