@@ -170,6 +170,29 @@ static void solve(uint32_t p, uint32_t c, uint32_t inverse, const uint32_t *a, s
         for (size_t j = i; j + 1 < m; j++) e[j] = (uint32_t)((e[j] + (uint64_t)(p - c) * e[j + 1]) % p);
 }
 
+/* As often as c is a root it is divided out; nothing is left to find where f is 1. */
+uint32_t base_roots(uint32_t p, uint32_t d, const uint32_t *f, uint32_t *roots, uint32_t *powers) {
+    uint32_t left[MAX_ROWS], count = 0;
+    size_t degree = d;
+    memcpy(left, f, (d + 1) * sizeof *left);
+    for (uint32_t c = 0; c < p && degree > 0; c++) {
+        uint32_t power = 0;
+        for (;;) {
+            uint64_t value = left[degree];
+            for (size_t j = degree; j-- > 0;) value = (left[j] + value * c) % p;
+            if (value) break;
+            horner(p, c, left, degree + 1);
+            memmove(left, left + 1, degree-- * sizeof *left);
+            power++;
+        }
+        if (power) {
+            roots[count] = c;
+            powers[count++] = power;
+        }
+    }
+    return count;
+}
+
 /* Column t of f less the products of the columns between: what the columns t of P and A have to come to. */
 static void gather(uint32_t p, const uint32_t *f, const uint32_t *low, size_t m, const uint32_t *high, size_t k, size_t n, size_t t, uint32_t *e, size_t size) {
     for (size_t j = 0; j < size; j++) {

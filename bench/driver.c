@@ -10,7 +10,7 @@
 #include <string.h>
 #include <time.h>
 
-enum { D = 32, ORDER = 16, SHORT_N = 8, MAX_N = 256, WORDS = 200000, SAMPLES = 41 };
+enum { D = 32, ORDER = 16, SHORT_N = 8, MAX_N = 256, WORDS = 200000, SAMPLES = 41, FEW_SAMPLES = 3 };
 
 static const uint32_t MODULI[] = {65521, 16777213}; /* the largest primes of two bytes and of three */
 enum { MODULI_COUNT = sizeof MODULI / sizeof *MODULI };
@@ -210,9 +210,9 @@ static int rising(const void *a, const void *b) {
     return (x > y) - (x < y);
 }
 
-static double median(double *samples) {
-    qsort(samples, SAMPLES, sizeof *samples, rising);
-    return samples[SAMPLES / 2];
+static double median(double *samples, int count) {
+    qsort(samples, (size_t)count, sizeof *samples, rising);
+    return samples[count / 2];
 }
 
 /* The sheet, or the pair, is copied back from the saved one before the clock starts, on both sides. */
@@ -241,10 +241,12 @@ struct medians {
     double ratio; /* of samples taken one after the other, so that a change of the machine's pace strikes both */
 };
 
+static bool slow; /* whether the other side is so slow that a few samples of one call have to do */
+
 static struct medians take_turns(const struct benchmark *b) {
     double samples[2][SAMPLES], ratios[SAMPLES];
-    int repeats = repeats_for(b);
-    for (int i = 0; i < SAMPLES; i++) {
+    int count = slow ? FEW_SAMPLES : SAMPLES, repeats = slow ? 1 : repeats_for(b);
+    for (int i = 0; i < count; i++) {
         for (int turn = 0; turn < 2; turn++) {
             int side = (i + turn) % 2;
             samples[side][i] = sample(b, side, repeats);
@@ -252,7 +254,7 @@ static struct medians take_turns(const struct benchmark *b) {
         check_same(b);
         ratios[i] = samples[0][i] / samples[1][i];
     }
-    return (struct medians){{median(samples[0]), median(samples[1])}, median(ratios)};
+    return (struct medians){{median(samples[0], count), median(samples[1], count)}, median(ratios, count)};
 }
 
 static struct medians measure(const struct benchmark *b) {
@@ -395,6 +397,102 @@ static void short_table(void) {
     }
 }
 
+/* --- finding the roots, with one column, so that nothing else takes time --- */
+
+struct finding {
+    const char *name;
+    uint32_t p, roots; /* so many, all of one power */
+    enum { SPLIT, QUADRATIC, ANY } shape; /* nothing but roots; Y^2 - 2 beside them; any polynomial instead */
+};
+
+static const struct finding FINDINGS[] = {
+    {"32 simple roots", 65521, 32, SPLIT},
+    {"32 simple roots", 16777213, 32, SPLIT},
+    {"8 roots of power 4", 16777213, 8, SPLIT},
+    {"one root of power 32", 16777213, 1, SPLIT},
+    {"30 simple roots and a quadratic without roots", 16777213, 30, QUADRATIC}, /* 2 is no square modulo 16777213 */
+    {"any polynomial", 16777213, 0, ANY},
+};
+
+static void draw_finding(const struct finding *x) {
+    p = x->p;
+    n = 1;
+    for (uint32_t i = 0; i < x->roots; i++) {
+        uint32_t part = p / x->roots;
+        roots[i] = part * i + random_word() % part;
+        powers[i] = (x->shape == QUADRATIC ? D - 2 : D) / x->roots;
+    }
+    draw_polynomial(x->roots);
+    if (x->shape == QUADRATIC)
+        for (uint32_t j = D + 1; j-- > 0;) f[j] = (uint32_t)(((j > 1 ? f[j - 2] : 0) + (uint64_t)(p - 2) * f[j]) % p);
+    if (x->shape == ANY) fill(f, D);
+    f[D] = 1;
+    for (uint32_t j = 0; j < D; j++) lengths[j] = 1;
+}
+
+static uint64_t found; /* the engine's result */
+static uint32_t other_roots[D], other_powers[D], other_count;
+
+/* That a polynomial does not split is an answer here. */
+static uint64_t find(void) {
+    found = bk_sheet_find(p, D, n, f, D + 1, lengths, D, out[0], WORDS);
+    return !bk_refused(found) || bk_refused(found) == BK_UNSPLIT ? 1 : found;
+}
+
+static uint64_t scan(int side) {
+    if (side == 0) return find();
+    other_count = base_roots(p, D, f, other_roots, other_powers);
+    return 1;
+}
+
+static uint64_t library_roots(int side) {
+    if (side == 0) return find();
+    library->find_roots();
+    return 1;
+}
+
+/* The engine's sheet has these roots and powers; or it has none, and the powers do not come to D. */
+static bool same_roots(void) {
+    uint32_t together = 0;
+    for (uint32_t i = 0; i < other_count; i++) together += other_powers[i];
+    if (together != D) return bk_refused(found) == BK_UNSPLIT;
+    bool same = !bk_refused(found) && out[0][4] == other_count;
+    for (uint32_t i = 0; same && i < other_count; i++) {
+        const uint32_t *entry = out[0] + out[0][5] + 2 * i;
+        same = entry[0] == other_roots[i] && entry[1] == other_powers[i];
+    }
+    return same;
+}
+
+static bool same_library_roots(void) {
+    other_count = library->give_roots(other_roots, other_powers);
+    return same_roots();
+}
+
+static void finding_row(const struct finding *x, const char *other, uint64_t (*call)(int side), bool (*same)(void)) {
+    struct benchmark b = {x->name, no_input, call, same, 0, NOTHING};
+    struct medians m = take_turns(&b);
+    printf("| %s | %u | %s | %.1f | %.1f | %.4f |\n", x->name, p, other, m.seconds[0] * 1e6, m.seconds[1] * 1e6, m.ratio);
+    fflush(stdout);
+}
+
+static void finding_table(void) {
+    printf("\n| Finding the roots, D = %d, N = 1 | p | other | engine, us | other, us | engine / other |\n|---|---|---|---|---|---|\n", D);
+    for (size_t i = 0; i < sizeof FINDINGS / sizeof *FINDINGS; i++) {
+        const struct finding *x = &FINDINGS[i];
+        draw_finding(x);
+        slow = true;
+        finding_row(x, "C, every number tried", scan, same_roots);
+        slow = false;
+        for (int l = 0; LIBRARIES[l]; l++) {
+            library = LIBRARIES[l];
+            library->load_monic(p, D, f);
+            finding_row(x, library->name, library_roots, same_library_roots);
+        }
+    }
+    printf("\nOf a polynomial that does not split the engine says so, and the others name the roots that there are. Samples of the C version are %d of one call.\n", FEW_SAMPLES);
+}
+
 int main(void) {
     printf("D = %d; medians of %d samples of processor time, engine and C (gcc -O3 -march=x86-64) in turn on the same input, results identical.\n"
            "Each has its own sheet of the same polynomial: the C version's is document 01's, with cofactors. A ratio is the median of the ratios of two samples\n"
@@ -405,6 +503,7 @@ int main(void) {
         printf("\nThe largest ratio is %.2f.\n", worst);
     }
     short_table();
+    finding_table();
     library_table();
     return 0;
 }

@@ -1,7 +1,8 @@
-/* FLINT's nmod_poly: product and inverse modulo X^n; and n_is_prime. */
+/* FLINT's nmod_poly: product and inverse modulo X^n, and nmod_poly_roots; and n_is_prime. */
 #include "others.h"
 
 #include <flint/nmod_poly.h>
+#include <flint/nmod_poly_factor.h>
 #include <flint/ulong_extras.h>
 
 static nmod_poly_t g, h, result;
@@ -28,4 +29,20 @@ static void give(uint32_t *out) {
 
 static int is_prime(uint32_t p) { return n_is_prime(p); }
 
-const struct other flint_series = {"FLINT", load, product, inverse, give, is_prime};
+static nmod_poly_t monic;
+static nmod_poly_factor_t found;
+
+static void load_monic(uint32_t p, uint32_t degree, const uint32_t *f) {
+    columns = degree + 1;
+    set(monic, p, f);
+    nmod_poly_factor_init(found);
+}
+
+static void find_roots(void) { nmod_poly_roots(found, monic, 1); }
+
+static uint32_t give_roots(uint32_t *to, uint32_t *powers) {
+    for (slong i = 0; i < found->num; i++) put_root((uint32_t)nmod_neg(nmod_poly_get_coeff_ui(found->p + i, 0), monic->mod), (uint32_t)found->exp[i], to, powers, (uint32_t)i);
+    return (uint32_t)found->num;
+}
+
+const struct other flint_series = {"FLINT", load, product, inverse, give, is_prime, load_monic, find_roots, give_roots};

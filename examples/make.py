@@ -1,6 +1,6 @@
 #!/usr/bin/env python3
-"""Writes the sample job files: p, D, N, r, the byte offsets of roots and rows, the roots, the rows. Fields are 16-bit words, the low byte first, or 32-bit
-words after a first 16-bit word of 0 where the modulus needs more than two bytes."""
+"""Writes the sample job files: p, D, N, r, the byte offsets of roots and rows, the roots, the rows; r is 0 where the roots are to be found. Fields are 16-bit
+words, the low byte first, or 32-bit words after a first 16-bit word of 0 where the modulus needs more than two bytes."""
 import os
 import struct
 
@@ -48,6 +48,11 @@ def job(name, p, n, factors):
     write(name, p, n, [root for root, _ in factors], product(p, n, factors))
 
 
+def find(name, p, n, factors):
+    """The same without its roots."""
+    write(name, p, n, [], product(p, n, factors))
+
+
 def longest(p):
     """The longest file, and the longest listing: twelve factors Y + s to 64 terms, every number of eight digits but that of each s at X = 0, which has seven."""
     roots = [10000000 + 500000 * i for i in range(12)]
@@ -66,3 +71,7 @@ job("two_at_once.job", 3, 64, [(0, 1), (1, 1), (2, 7)])
 job("wide.job", 65537, 6, [(3, 1), (65536, 2)])
 longest(16777213)
 write("unsplit.job", 7, 3, [1], [[6, 6, 0], [0, 0, 0], [1, 0, 0]])
+write("find.job", 7, 3, [], [[6, 6, 0], [0, 0, 0], [1, 0, 0]])
+find("find_powers.job", 5, 10, [(0, 4), (1, 3), (3, 2)])
+find("find_wide.job", 16777213, 4, [(0, 1), (4095, 3), (8388607, 2), (16777212, 1)])
+write("find_unsplit.job", 7, 3, [], [[1, 6, 0], [0, 0, 0], [1, 0, 0]])

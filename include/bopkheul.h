@@ -37,7 +37,7 @@ enum bk_refusal {
     BK_UNREDUCED = 6,     /* some coefficient, root or number is not below p; detail: the first one's position from 0, inputs counted on in the order given */
     BK_NOT_MONIC = 7,     /* opening: row d is not 1, 0, 0, .. */
     BK_ROOT_LIST = 8,     /* opening: the roots are none, more than d, or not strictly rising */
-    BK_UNSPLIT = 9,       /* opening: f at X = 0 is no product of the Y - root, each taken at least once */
+    BK_UNSPLIT = 9,       /* opening: f at X = 0 is no product of the Y - root, each taken at least once; finding: it is no product of Y - c, whatever the c */
     BK_SHORT = 10,        /* the output is too short; detail: the words (or bytes) needed */
     BK_FLAT = 11,         /* pair: f has no row that is other than 0 at X = 0 */
     BK_NO_UNIT = 12,      /* quotient: the divisor is 0, or its least power of X is above the dividend's; inverse: the series begins with 0, the number is 0 */
@@ -84,6 +84,10 @@ uint64_t bk_pair(uint32_t p, uint32_t d, uint32_t n, const uint32_t *f, size_t f
  * with one term, from f monic of degree d, the known lengths of its rows 0..d-1 and its roots at X = 0, and answers the total. A length is from 1 to n, and is
  * n where all of the row is known; the row's words past it must be 0. Positions in the detail of 6 are counted along the rows and then the roots. */
 uint64_t bk_sheet_open(uint32_t p, uint32_t d, uint32_t n, const uint32_t *f, size_t f_count, const uint32_t *lengths, size_t lengths_count, const uint32_t *roots, size_t roots_count, uint32_t *out, size_t out_count);
+/* The same without a list of roots: all roots of f at X = 0 are found, and what open writes with the list of them is written. BK_UNSPLIT then says that there is
+ * no such list: f at X = 0 does not split into lines Y - c, whatever the c. BK_ROOT_LIST is never given. The total depends on the number of roots:
+ * 11 + 3d + (2d + 1)n words are always enough. Positions in the detail of 6 are counted along the rows. */
+uint64_t bk_sheet_find(uint32_t p, uint32_t d, uint32_t n, const uint32_t *f, size_t f_count, const uint32_t *lengths, size_t lengths_count, uint32_t *out, size_t out_count);
 /* Works the factors out to w terms, from those there; w is at most the least length, word 10. The answer is w. */
 uint64_t bk_sheet_extend(uint32_t *sheet, size_t sheet_count, uint32_t w);
 /* 1 where the words begin with a sound sheet, else 0; it refuses nothing. */
@@ -100,8 +104,8 @@ uint64_t bk_sheet_factor_shift(const uint32_t *sheet, size_t sheet_count, uint32
  * answer, or the refusal's number and detail. Refused by 5: lent and w of unlike counts, or a call that lends more words than there are. */
 uint64_t bk_sheet_replay(uint32_t *sheet, size_t sheet_count, const uint32_t *lent, size_t lent_count, const uint32_t *w, size_t w_count, uint32_t *answers, size_t answers_count);
 
-/* The listing of a job file of either kind, with fields of 16 bits or, after a first word of 0, of 32. For a refused job it is the one line
- * `refused NUMBER DETAIL`. The answer is the number of bytes written; the only refusal of the call itself is 10. */
+/* The listing of a job file of either kind, with fields of 16 bits or, after a first word of 0, of 32. Where the job names no roots (r = 0) they are found. For a
+ * refused job it is the one line `refused NUMBER DETAIL`. The answer is the number of bytes written; the only refusal of the call itself is 10. */
 uint64_t bk_list(const uint8_t *job, size_t job_count, uint8_t *out, size_t out_count);
 
 /* From here on nothing that a caller needs to read.
@@ -158,6 +162,9 @@ static inline uint64_t bk_pair_any(uint32_t p, uint32_t d, uint32_t n, const uin
 static inline uint64_t bk_sheet_open_any(uint32_t p, uint32_t d, uint32_t n, const uint32_t *f, size_t f_count, const uint32_t *lengths, size_t lengths_count, const uint32_t *roots, size_t roots_count, uint32_t *out, size_t out_count) {
     return bk_sheet_open(p, d, n, bk_words_in(f, f_count), f_count, bk_words_in(lengths, lengths_count), lengths_count, bk_words_in(roots, roots_count), roots_count, bk_words_out(out, out_count), out_count);
 }
+static inline uint64_t bk_sheet_find_any(uint32_t p, uint32_t d, uint32_t n, const uint32_t *f, size_t f_count, const uint32_t *lengths, size_t lengths_count, uint32_t *out, size_t out_count) {
+    return bk_sheet_find(p, d, n, bk_words_in(f, f_count), f_count, bk_words_in(lengths, lengths_count), lengths_count, bk_words_out(out, out_count), out_count);
+}
 static inline uint64_t bk_sheet_extend_any(uint32_t *sheet, size_t sheet_count, uint32_t w) {
     return bk_sheet_extend(bk_words_out(sheet, sheet_count), sheet_count, w);
 }
@@ -191,6 +198,7 @@ static inline uint64_t bk_list_any(const uint8_t *job, size_t job_count, uint8_t
 #define bk_rows_shift bk_rows_shift_any
 #define bk_pair bk_pair_any
 #define bk_sheet_open bk_sheet_open_any
+#define bk_sheet_find bk_sheet_find_any
 #define bk_sheet_extend bk_sheet_extend_any
 #define bk_sheet_test bk_sheet_test_any
 #define bk_sheet_factor bk_sheet_factor_any

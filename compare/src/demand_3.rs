@@ -1,6 +1,7 @@
 //! Demand 3 on pairs of sheets over one p: a list of calls on each is answered as the plain count says, and then the two factor lists agree below X^j exactly
 //! when the two polynomials do.
 
+use crate::finding::found;
 use crate::polynomials::{self, Given};
 use crate::random::Random;
 use crate::report::Report;
@@ -58,10 +59,19 @@ fn expect_agreement(report: &mut Report, given: [&Given; 2], words: [&[u32]; 2])
     report.kind(kind(f, g, agreeing, worked));
 }
 
+/// A fresh sheet, with the list of its roots or without.
+fn opened_or_found(random: &mut Random, report: &mut Report, given: &Given) -> Vec<u32> {
+    if random.once_in(2) {
+        return opened(random, report, given);
+    }
+    report.kind("demand 3: a sheet whose roots were found");
+    found(random, report, given)
+}
+
 /// Once after lists of calls, so that the sheets have any terms, and once with all that there can be.
 fn compare(random: &mut Random, report: &mut Report, f: &Given, g: &Given) {
     let sheets = [f, g].map(|given| {
-        let fresh = opened(random, report, given);
+        let fresh = opened_or_found(random, report, given);
         several_goes(random, report, given, &fresh)
     });
     expect_agreement(report, [f, g], [&sheets[0], &sheets[1]]);

@@ -1,5 +1,5 @@
 //! Document 01's examples, by the words that it prints, and what document 02 changes in them: the sheet that F-8 makes smaller, the moduli of F-2, the one call for
-//! the pair of F-4, the quotient of F-5, the known lengths of F-9.
+//! the pair of F-4, the quotient of F-5, the known lengths of F-9, the roots that F-3 finds.
 
 use crate::random::Random;
 use crate::report::{engine, Outcome, Report};
@@ -40,6 +40,21 @@ fn known_lengths(report: &mut Report) {
     report.expect(engine(series::sum(7, 3, &[3, 5, 0], 2, &[1, 1, 6], 3, &mut out)) == Ok(3) && out == [4, 6, 0, 9], what);
     report.expect(engine(series::product(7, 3, &[3, 5, 0], 2, &[1, 1, 6], 3, &mut out)) == Ok(3) && out == [3, 1, 0, 9], what);
     report.kind("the known lengths of document 02's F-9");
+}
+
+/// The same job and the same polynomial with no roots given; and Y² + 1, which has none modulo 7.
+fn roots_found(report: &mut Report) {
+    let what = "document 02, F-3: document 01's job without its roots";
+    let fields: [u16; 15] = [7, 2, 3, 0, 12, 12, 6, 6, 0, 0, 0, 0, 1, 0, 0];
+    let job: Vec<u8> = fields.iter().flat_map(|field| field.to_le_bytes()).collect();
+    let text = "mod 7 terms 3 degree 2 factors 2\nroot 1 power 1\nY^0: 6 3 1\nroot 6 power 1\nY^0: 1 4 6\n";
+    report.expect(listing::text(&job) == text.as_bytes(), what);
+    let mut words = [0; 32];
+    let mut find = |f: [u32; 9], room: usize| engine(sheet::find(7, 2, 3, &f, &[2, 3], &mut words[..room]));
+    report.expect(find([1, 0, 0, 0, 0, 0, 1, 0, 0], 0) == Err((9, 0)), "document 02, F-3: Y² + 1 does not split modulo 7");
+    report.expect(find([6, 6, 0, 0, 0, 0, 1, 0, 0], 31) == Err((10, 32)) && find([6, 6, 0, 0, 0, 0, 1, 0, 0], 32) == Ok(32), what);
+    report.expect(words[..17] == [7, 2, 3, 1, 2, 13, 17, 26, 32, 32, 2, 2, 3, 1, 1, 6, 1], what);
+    report.kind("the roots of document 02's F-3");
 }
 
 fn modulo_2(report: &mut Report) {
@@ -126,4 +141,5 @@ pub fn run(_: &mut Random, report: &mut Report) {
     three_roots(report);
     the_quotient(report);
     known_lengths(report);
+    roots_found(report);
 }

@@ -1,6 +1,7 @@
-//! Rows known to different lengths: what open refuses of them, what a sound sheet has of them, and that the factors depend on no unknown entry below the least
+//! Rows known to different lengths: what open and find refuse of them, what a sound sheet has of them, and that the factors depend on no unknown entry below the least
 //! length, but do in the next column.
 
+use crate::finding::find;
 use crate::polynomials::{self, Given};
 use crate::random::Random;
 use crate::report::{every_set, Fault, Outcome, Report};
@@ -114,10 +115,12 @@ fn worked_too_far(random: &mut Random, report: &mut Report) {
     }
 }
 
+/// Open, and find, which is judged alike.
 fn expect(report: &mut Report, given: &Given, expected: Outcome, kind: &'static str) {
-    let needed = total(given) as usize;
-    let outcome = open(report, given, &vec![9; needed + 1]).outcome;
-    report.expect(outcome == expected, &format!("{kind}: open comes to {outcome:?} and not {expected:?}, of {given:?}"));
+    let out = vec![9; total(given) as usize + 1];
+    for outcome in [open(report, given, &out).outcome, find(report, given, &out).outcome] {
+        report.expect(outcome == expected, &format!("{kind}: the outcome is {outcome:?} and not {expected:?}, of {given:?}"));
+    }
     report.kind(kind);
 }
 
@@ -135,19 +138,24 @@ fn boundaries(random: &mut Random, report: &mut Report, given: &Given) {
         for outside in [0, n + 1, u32::MAX] {
             let mut changed = given.clone();
             changed.lengths[j] = outside;
-            expect(report, &changed, Err((21, 0)), "open: a length outside 1..N");
+            expect(report, &changed, Err((21, 0)), "open and find: a length outside 1..N");
         }
         if length < n {
-            expect(report, &with_word(given, j, length, 1), Err((21, 0)), "open: a word at its row's length is not 0");
-            expect(report, &with_word(given, j, n - 1, 1), Err((21, 0)), "open: a row's last word is past its length and not 0");
-            expect(report, &with_word(given, j, length, given.p), Err((6, j as u32 * n + length)), "open: a word past its row's length is p");
+            expect(report, &with_word(given, j, length, 1), Err((21, 0)), "open and find: a word at its row's length is not 0");
+            expect(report, &with_word(given, j, n - 1, 1), Err((21, 0)), "open and find: a row's last word is past its length and not 0");
+            expect(
+                report,
+                &with_word(given, j, length, given.p),
+                Err((6, j as u32 * n + length)),
+                "open and find: a word past its row's length is p",
+            );
         }
         if length > 1 {
             let word = random.below(given.p);
-            expect(report, &with_word(given, j, length - 1, word), all, "open: any word before its row's length");
+            expect(report, &with_word(given, j, length - 1, word), all, "open and find: any word before its row's length");
         }
     }
-    expect(report, &with_word(given, given.d as usize, n - 1, 1), Err((7, 0)), "open: the top row has no length");
+    expect(report, &with_word(given, given.d as usize, n - 1, 1), Err((7, 0)), "open and find: the top row has no length");
 }
 
 /// As many lengths as there are rows below the top one, and neither more nor fewer.
@@ -156,17 +164,20 @@ fn counted(report: &mut Report, given: &Given) {
     for count in [0, d - 1, d + 1, 40] {
         let mut changed = given.clone();
         changed.lengths.resize(count, given.n);
-        expect(report, &changed, Err((5, 0)), "open: more or fewer lengths than D");
+        expect(report, &changed, Err((5, 0)), "open and find: more or fewer lengths than D");
     }
 }
 
-/// The roots are counted on after the rows in the detail of 6, and the lengths are not counted.
+/// The roots are counted on after the rows in the detail of 6, and the lengths are not counted. Find has no roots.
 fn positions(random: &mut Random, report: &mut Report, given: &Given) {
     let at = random.below(given.roots.len() as u32);
     let mut changed = given.clone();
     changed.roots[at as usize] = given.p;
     changed.lengths[0] = u32::MAX;
-    expect(report, &changed, Err((6, (given.d + 1) * given.n + at)), "open: a root is p, and a length is wrong");
+    let outcomes = [open(report, &changed, &[]).outcome, find(report, &changed, &[]).outcome];
+    let expected = [Err((6, (given.d + 1) * given.n + at)), Err((21, 0))];
+    report.expect(outcomes == expected, &format!("open and find come to {outcomes:?} and not {expected:?}, of {changed:?}"));
+    report.kind("open: a root is p, and a length is wrong");
 }
 
 #[derive(Clone, Debug)]

@@ -1,8 +1,9 @@
-//! Job files of both kinds: good ones, and ones with faults in every field.
+//! Job files of both kinds, with roots and without: good ones, and ones with faults in every field.
 
 use crate::polynomials::{self, Given};
 use crate::random::Random;
 use crate::report::{engine, second, Report, LINE};
+use second::field::pow;
 use second::polynomial::{constant, product_of_all, words};
 
 /// How a file writes its fields: in 16 bits, or, after a first word of 0, in 32.
@@ -90,7 +91,11 @@ fn spoil_first_word(random: &mut Random, report: &mut Report, kind: Kind, file: 
 fn job(random: &mut Random, report: &mut Report) -> Vec<u8> {
     let (p, d, n) = (random.prime(), random.degree().clamp(1, 13), random.columns().min(65));
     let kind = if p > 65535 || random.once_in(2) { Kind::Wide } else { Kind::Narrow };
-    let mut fields = kind.fields(&polynomials::known(random, report, p, d, n));
+    let mut given = polynomials::known(random, report, p, d, n);
+    if random.once_in(3) {
+        given.roots.clear();
+    }
+    let mut fields = kind.fields(&given);
     let mut faults = random.pick(&[0, 0, 0, 1, 1, 2, 3]);
     while faults > 0 && fields[4] >= kind.head() && fields[5] >= kind.head() {
         spoil_field(random, report, kind, &mut fields);
@@ -111,16 +116,29 @@ fn job(random: &mut Random, report: &mut Report) -> Vec<u8> {
     file
 }
 
+/// Whether the file has a head that says r = 0.
+fn names_no_roots(job: &[u8]) -> bool {
+    match job {
+        [0, 0, ..] => job.get(14..18) == Some(&[0; 4]),
+        _ => job.get(6..8) == Some(&[0; 2]),
+    }
+}
+
 /// What the listing says of the file's kind.
 fn note_kind(report: &mut Report, job: &[u8], text: &str) {
     let wide = job.starts_with(&[0, 0]);
+    let pick = |kinds: [&'static str; 2]| kinds[names_no_roots(job) as usize];
     match text.strip_prefix("mod ") {
         Some(rest) if wide => {
             let p: u32 = rest.split(' ').next().and_then(|p| p.parse().ok()).expect("the modulus follows");
-            report.kind(if p > 65535 { "job: wide, listed, p above 65,535" } else { "job: wide, listed" });
+            report.kind(match p {
+                0..=65535 => pick(["job: wide, listed", "job: no roots, wide, listed"]),
+                _ => pick(["job: wide, listed, p above 65,535", "job: no roots, wide, listed, p above 65,535"]),
+            });
         }
-        Some(_) => report.kind("job: of 16-bit fields, listed"),
+        Some(_) => report.kind(pick(["job: of 16-bit fields, listed", "job: no roots, of 16-bit fields, listed"])),
         None if wide && (12..26).contains(&job.len()) => report.kind("job: wide, under 26 bytes"),
+        None if text == "refused 9 0\n" && names_no_roots(job) => report.kind("job: no roots, refused by 9"),
         None => {}
     }
 }
@@ -142,8 +160,11 @@ fn square_root(p: u32) -> Given {
     Given { p, d: 2, n: 3, f: vec![p - 1, p - 1, 0, 0, 0, 0, 1, 0, 0], lengths: vec![3; 2], roots: vec![1, p - 1] }
 }
 
-/// What can be wrong with the fields of that job, in the order of refusals. (The length is the last of those that give 5.)
-const FAULTS: [fn(&mut Vec<u32>); 12] = [
+/// What can be wrong with the fields of a job, in the order of refusals.
+type Faults = &'static [fn(&mut Vec<u32>)];
+
+/// Those of the head, and a field too many, which give 1 to 5. (The length is the last of those that give 5.)
+const HEAD: [fn(&mut Vec<u32>); 8] = [
     |fields| fields[0] = 1,
     |fields| fields[0] = 65_535,
     |fields| fields[1] = u32::MAX,
@@ -152,21 +173,35 @@ const FAULTS: [fn(&mut Vec<u32>); 12] = [
     |fields| fields[4] -= 2,
     |fields| fields[5] -= 2,
     |fields| fields.push(0),
-    |fields| fields[11] = fields[0],
-    |fields| fields[15] = 1,
-    |fields| fields[7] = 1,
-    |fields| fields[6] = 0,
 ];
 
+/// Of that job: a word of row 1 is p, the top row, the root list, a root.
+const OPENED: Faults = &[|fields| fields[11] = fields[0], |fields| fields[15] = 1, |fields| fields[7] = 1, |fields| fields[6] = 0];
+
+/// Of that job without its roots: a word of row 1 is p, the top row, no root at all.
+const FOUND: Faults = &[|fields| fields[9] = fields[0], |fields| fields[13] = 1, |fields| fields[6] = unsplit_constant(fields[0])];
+
+/// The least c for which Y² + c has no root modulo p, where p is a prime; else 0.
+fn unsplit_constant(p: u32) -> u32 {
+    let p = p as u64;
+    let rootless = |c: &u64| pow(p, p - c, (p - 1) / 2) == p - 1;
+    (1..p.min(100)).find(rootless).unwrap_or(0) as u32
+}
+
 fn every_set_of_faults(random: &mut Random, report: &mut Report, kind: Kind, given: &Given) {
-    for set in 0..1 << FAULTS.len() {
+    let (of_open, case) = match given.roots.len() {
+        0 => (FOUND, "job: no roots, every set of refusals at once"),
+        _ => (OPENED, "job: every set of refusals at once"),
+    };
+    let faults: Vec<_> = HEAD.iter().chain(of_open).collect();
+    for set in 0..1 << faults.len() {
         let mut fields = kind.fields(given);
-        for (i, fault) in FAULTS.iter().enumerate() {
+        for (i, fault) in faults.iter().enumerate() {
             if set >> i & 1 == 1 {
                 fault(&mut fields);
             }
         }
-        report.kind("job: every set of refusals at once");
+        report.kind(case);
         compare(random, report, &kind.bytes(&fields));
     }
 }
@@ -195,13 +230,38 @@ fn longest(random: &mut Random, report: &mut Report) {
     };
     let factors: Vec<_> = roots.iter().map(|&root| factor(random, root)).collect();
     let f = words(&product_of_all(p as u64, n, &factors));
-    let mut file = Kind::Wide.bytes(&Kind::Wide.fields(&Given { p, d: 12, n: n as u32, f, lengths: vec![n as u32; 12], roots }));
+    let given = Given { p, d: 12, n: n as u32, f, lengths: vec![n as u32; 12], roots };
+    let mut file = Kind::Wide.bytes(&Kind::Wide.fields(&given));
     let text = second::listing::text(&file);
     report.expect(file.len() == 3402 && text.len() == 7267, &format!("the longest file has {} bytes, and its listing {}", file.len(), text.len()));
     report.kind("job: the longest file and the longest listing, 3,402 and 7,267 bytes");
     compare(random, report, &file);
     file.push(0);
     compare(random, report, &file);
+    compare(random, report, &Kind::Wide.bytes(&Kind::Wide.fields(&Given { roots: vec![], ..given })));
+}
+
+/// With the list of its roots and without it a polynomial has the same listing; and what stands in the file is what r says, or the file is refused.
+fn without_roots(random: &mut Random, report: &mut Report) {
+    let (p, d, n) = (random.prime(), random.within(1, 12), random.within(1, 16));
+    let kind = if p > 65535 || random.once_in(2) { Kind::Wide } else { Kind::Narrow };
+    let given = polynomials::known(random, report, p, d, n);
+    let (listed, found) = (kind.fields(&given), kind.fields(&Given { roots: vec![], ..given.clone() }));
+    let text = |fields: &[u32]| bopkheul::listing::text(&kind.bytes(fields));
+    let [with, without] = [&listed, &found].map(|fields| text(fields));
+    report.expect(with == without && with.starts_with(b"mod "), &format!("the roots of {given:?} are found, and the listing is the same"));
+    report.kind("job: no roots, the listing is that with the list of roots");
+    compare(random, report, &kind.bytes(&found));
+    let r = listed[3];
+    for (fields, other, case) in [(&listed, 0, "job: roots stand there, and r is 0"), (&found, r, "job: no roots stand there, and r is not 0")] {
+        for offset in [kind.head(), kind.head() + kind.size() * r] {
+            let mut changed = fields.clone();
+            (changed[3], changed[5]) = (other, offset);
+            report.expect(text(&changed) == b"refused 5 0\n", &format!("{case}: {changed:?}"));
+            report.kind(case);
+            compare(random, report, &kind.bytes(&changed));
+        }
+    }
 }
 
 pub fn run(random: &mut Random, report: &mut Report) {
@@ -210,8 +270,13 @@ pub fn run(random: &mut Random, report: &mut Report) {
         compare(random, report, &file);
     }
     for (kind, p) in [(Kind::Narrow, 65_521), (Kind::Wide, 65_521), (Kind::Wide, 16_777_213)] {
-        every_set_of_faults(random, report, kind, &square_root(p));
-        every_length(random, report, kind, &square_root(p));
+        let listed = square_root(p);
+        let found = Given { roots: vec![], ..listed.clone() };
+        for given in [listed, found] {
+            every_set_of_faults(random, report, kind, &given);
+            every_length(random, report, kind, &given);
+        }
     }
+    (0..500).for_each(|_| without_roots(random, report));
     longest(random, report);
 }

@@ -5,6 +5,7 @@
 mod demand_3;
 mod documents;
 mod extensions;
+mod finding;
 mod lengths;
 mod listings;
 mod numbers;
@@ -25,7 +26,7 @@ use std::process::exit;
 
 type Section = fn(&mut Random, &mut Report);
 
-const SECTIONS: [Section; 13] = [
+const SECTIONS: [Section; 14] = [
     documents::run,
     numbers::run,
     series::run,
@@ -39,6 +40,7 @@ const SECTIONS: [Section; 13] = [
     reading::run,
     quotients::run,
     lengths::run,
+    finding::run,
 ];
 
 fn seeds() -> Vec<u64> {

@@ -34,23 +34,26 @@ impl Given {
     }
 }
 
-/// Π (Y − c_i)^(m_i), lowest coefficient first.
-fn product(p: u32, roots: &[u32], powers: &[u32]) -> Vec<u32> {
-    let p = p as u64;
-    let mut f = vec![1u64];
-    for (&c, &m) in roots.iter().zip(powers) {
-        for _ in 0..m {
-            f.insert(0, 0);
-            for j in 0..f.len() - 1 {
-                f[j] = (f[j] + f[j + 1] * (p - c as u64)) % p;
-            }
+/// The product of two polynomials over F_p, lowest coefficient first.
+pub fn times(p: u32, f: &[u32], g: &[u32]) -> Vec<u32> {
+    let mut all = vec![0; f.len() + g.len() - 1];
+    for (i, &a) in f.iter().enumerate() {
+        for (j, &b) in g.iter().enumerate() {
+            all[i + j] = ((all[i + j] as u64 + a as u64 * b as u64) % p as u64) as u32;
         }
     }
-    f.iter().map(|&c| c as u32).collect()
+    all
+}
+
+/// Π (Y − c_i)^(m_i), lowest coefficient first.
+pub fn lines(p: u32, roots: &[u32], powers: &[u32]) -> Vec<u32> {
+    let line = |&c: &u32| [(p - c) % p, 1];
+    let taken = roots.iter().zip(powers).flat_map(|(c, &m)| (0..m).map(move |_| c));
+    taken.fold(vec![1], |f, c| times(p, &f, &line(c)))
 }
 
 /// So many roots, in rising order.
-fn roots(random: &mut Random, p: u32, count: u32) -> Vec<u32> {
+pub fn roots(random: &mut Random, p: u32, count: u32) -> Vec<u32> {
     let mut roots = Vec::new();
     while roots.len() < count as usize {
         let c = random.below(p);
@@ -143,13 +146,18 @@ pub fn with_roots(random: &mut Random, report: &mut Report, p: u32, d: u32, n: u
     if d == 32 || n == 256 {
         report.kind("32 rows or 256 columns");
     }
-    let width = n as usize;
-    let mut f = random.words(p, d as usize * width);
+    with_start(random, p, n, &lines(p, &roots, &powers), &roots)
+}
+
+/// Monic with n columns: at X = 0 with these coefficients, elsewhere at random, and all of it known.
+pub fn with_start(random: &mut Random, p: u32, n: u32, start: &[u32], roots: &[u32]) -> Given {
+    let (d, width) = (start.len() - 1, n as usize);
+    let mut f = random.words(p, d * width);
     f.extend(vec![0; width]);
-    for (j, c) in product(p, &roots, &powers).into_iter().enumerate() {
-        f[j * width] = c;
+    for (j, &a) in start.iter().enumerate() {
+        f[j * width] = a;
     }
-    Given { p, d, n, f, lengths: vec![n; d as usize], roots }
+    Given { p, d: d as u32, n, f, lengths: vec![n; d], roots: roots.to_vec() }
 }
 
 /// With any number of roots, and all of it known.

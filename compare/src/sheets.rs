@@ -1,5 +1,6 @@
 //! Factor sheets: opened, worked on in goes, and damaged word by word.
 
+use crate::finding::find;
 use crate::lengths;
 use crate::old_layout;
 use crate::polynomials::{self, Given};
@@ -153,6 +154,7 @@ fn opening(random: &mut Random, report: &mut Report) {
     };
     let room = random.room(needed);
     open(report, &given, &random.junk(room));
+    find(report, &given, &random.junk(room));
 }
 
 /// A list of calls: each is lent the whole sheet, or only its first words.

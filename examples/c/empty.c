@@ -16,9 +16,11 @@ static void say(const char *call, uint64_t result) {
 static void words_needed(void) {
     const uint32_t f[(D + 1) * N] = {6, 6, [D * N] = 1}; /* Y^2 - 1 - X */
     const uint32_t lengths[D] = {N, N}, roots[] = {1, 6};
+    say("find", bk_sheet_find(P, D, N, f, (D + 1) * N, lengths, D, NULL, 0));
     say("open", bk_sheet_open(P, D, N, f, (D + 1) * N, lengths, D, roots, 2, NULL, 0));
     say("pair", bk_pair(P, D, N, f, (D + 1) * N, 0, N, NULL, 0));
     say("open, no roots", bk_sheet_open(P, D, N, f, (D + 1) * N, lengths, D, NULL, 0, NULL, 0));
+    say("find, no lengths", bk_sheet_find(P, D, N, f, (D + 1) * N, NULL, 0, NULL, 0));
     say("open, no lengths", bk_sheet_open(P, D, N, f, (D + 1) * N, NULL, 0, roots, 2, NULL, 0));
 }
 
@@ -33,6 +35,7 @@ static void nothing_given(void) {
     say("rows product", bk_rows_product(P, D, D, N, NULL, 0, NULL, 0, NULL, 0));
     say("rows shift", bk_rows_shift(P, D, N, NULL, 0, 1, NULL, 0));
     say("pair", bk_pair(P, D, N, NULL, 0, 0, N, NULL, 0));
+    say("sheet find", bk_sheet_find(P, D, N, NULL, 0, NULL, 0, NULL, 0));
     say("sheet open", bk_sheet_open(P, D, N, NULL, 0, NULL, 0, NULL, 0, NULL, 0));
     say("sheet extend", bk_sheet_extend(NULL, 0, N));
     say("sheet test", bk_sheet_test(NULL, 0));

@@ -1,7 +1,9 @@
-/* Splits Y^2 - 1 - X modulo 7, whose roots at X = 0 are 1 and 6, and prints both factors to 8 terms. */
+/* Splits Y^2 - 1 - X modulo 7 and prints its factors to 8 terms. The roots at X = 0, which are 1 and 6, are found; at the end a sheet is opened with the list of
+ * them, which gives the same words. */
 #include "bopkheul.h"
 
 #include <stdio.h>
+#include <string.h>
 
 enum { P = 7, D = 2, N = 8, WORDS = 256 };
 
@@ -24,14 +26,19 @@ static void print_factor(const uint32_t *sheet, const uint32_t factor[4]) {
 int main(void) {
     const uint32_t f[(D + 1) * N] = {6, 6, [D * N] = 1}; /* row 0 is -1 - X, row 1 is 0, row 2 is 1 */
     const uint32_t lengths[D] = {N, N}; /* of rows 0 and 1 all terms are known */
-    const uint32_t roots[] = {1, 6};
-    uint32_t sheet[WORDS];
-    if (refused("open", bk_sheet_open(P, D, N, f, (D + 1) * N, lengths, D, roots, 2, sheet, WORDS))) return 1;
+    uint32_t sheet[WORDS] = {0};
+    if (refused("find", bk_sheet_find(P, D, N, f, (D + 1) * N, lengths, D, sheet, WORDS))) return 1;
     if (refused("extend", bk_sheet_extend(sheet, WORDS, N))) return 1;
     for (uint32_t i = 0; i < sheet[4]; i++) {
         uint32_t factor[4];
         if (refused("factor", bk_sheet_factor(sheet, WORDS, i, factor, 4))) return 1;
         print_factor(sheet, factor);
     }
+
+    const uint32_t roots[] = {1, 6};
+    uint32_t listed[WORDS] = {0};
+    if (refused("open", bk_sheet_open(P, D, N, f, (D + 1) * N, lengths, D, roots, 2, listed, WORDS))) return 1;
+    if (refused("extend", bk_sheet_extend(listed, WORDS, N))) return 1;
+    printf("with the roots listed: %s\n", memcmp(sheet, listed, sizeof sheet) ? "another sheet" : "the same sheet");
     return 0;
 }

@@ -1,5 +1,6 @@
 //! Document 01 once more, with document 02's F-8 (the sheet), F-2 (moduli of three bytes, wide job files), F-4 (one call for the pair), F-5 (quotients with X in
-//! common) and F-9 (rows known to different lengths): written from their text alone and by other methods than the engine's, so that a slip of one is not a slip of both.
+//! common), F-9 (rows known to different lengths) and F-3 (roots that are found): written from their text alone and by other methods than the engine's, so that a
+//! slip of one is not a slip of both.
 //!
 //! | | engine | here |
 //! |---|---|---|
@@ -10,6 +11,7 @@
 //! | terms not known | left out of the work, and zeros put after it | worked out with the others, and then made 0 |
 //! | shift | weights from binomials | Horner over row polynomials |
 //! | powers of the roots | repeated division by Y − c | the order of f(Y + c), then multiplied back |
+//! | finding the roots | (Y^p − Y)^32 modulo f as a test, then gcds with Y^p − Y and (Y + a)^((p−1)/2) − 1 | every number tried; for large p Berlekamp's method |
 //! | pair | column after column, in place | Newton's doubling, from f alone; what stands in the output is compared with that |
 //! | factors | two-factor splits along a tree, each by synthetic division | one linear system for each column, over all unknowns at once |
 //! | a factor's rows | a part of the sheet, by its place | the sheet taken apart, row after row |
@@ -25,6 +27,7 @@ pub mod numbers;
 pub mod pair;
 pub mod polynomial;
 pub mod refusal;
+pub mod roots;
 pub mod rows;
 pub mod series;
 pub mod sheet;

@@ -1,4 +1,4 @@
-//! Linear systems over F_p by Gauss and Jordan.
+//! Linear systems over F_p by Gauss and Jordan, and the rank of a matrix.
 
 use crate::field::{inverse, mul, sub};
 
@@ -19,6 +19,25 @@ pub fn invert(p: u64, matrix: &Matrix) -> Option<Matrix> {
     Some(rows.into_iter().map(|row| row[size..].to_vec()).collect())
 }
 
+/// How many rows are left, other than 0, when each row has been taken from those that it can shorten.
+pub fn rank(p: u64, mut rows: Matrix) -> usize {
+    let mut done = 0;
+    for column in 0..rows.first().map_or(0, Vec::len) {
+        if let Some(pivot) = (done..rows.len()).find(|&r| rows[r][column] != 0) {
+            rows.swap(done, pivot);
+            let (above, below) = rows.split_at_mut(done + 1);
+            let pivot_row = &above[done];
+            let scale = inverse(p, pivot_row[column]);
+            for row in below {
+                let times = mul(p, row[column], scale);
+                take_multiple(p, row, times, pivot_row);
+            }
+            done += 1;
+        }
+    }
+    done
+}
+
 fn beside_identity(matrix: &Matrix) -> Matrix {
     let size = matrix.len();
     let unit = |r: usize| (0..size).map(move |c| (r == c) as u64);
@@ -31,10 +50,15 @@ fn clear_column(p: u64, rows: &mut Matrix, column: usize) {
     for (r, row) in rows.iter_mut().enumerate() {
         let factor = row[column];
         if r != column && factor != 0 {
-            for (x, y) in row.iter_mut().zip(&pivot_row) {
-                *x = sub(p, *x, mul(p, factor, *y));
-            }
+            take_multiple(p, row, factor, &pivot_row);
         }
+    }
+}
+
+/// Takes so many times another row from a row.
+fn take_multiple(p: u64, row: &mut [u64], times: u64, other: &[u64]) {
+    for (x, y) in row.iter_mut().zip(other) {
+        *x = sub(p, *x, mul(p, times, *y));
     }
 }
 

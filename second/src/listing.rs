@@ -57,16 +57,19 @@ fn factor_text(words: &[u32], n: usize, i: u32) -> Result<String, Refusal> {
     Ok(text)
 }
 
-/// Opens, every row being known to N, and extends to N terms.
+/// Opens, every row being known to N, and extends to N terms. Without a list the roots are found.
 fn worked(job: &Job) -> Result<String, Refusal> {
     let (roots, rows) = job.rest.split_at(job.r as usize);
     let lengths = vec![job.n; job.d as usize];
     let mut words = vec![0; 11 + 12 + 2 * 12 + 25 * 64]; // the largest sheet of a job: 12 roots, degree 12, 64 columns
-    let total = sheet::open(job.p, job.d, job.n, rows, &lengths, roots, &mut words)?;
+    let total = match job.r {
+        0 => sheet::find(job.p, job.d, job.n, rows, &lengths, &mut words)?,
+        _ => sheet::open(job.p, job.d, job.n, rows, &lengths, roots, &mut words)?,
+    };
     words.truncate(total as usize);
     sheet::extend(&mut words, job.n)?;
-    let mut text = format!("mod {} terms {} degree {} factors {}\n", job.p, words[3], job.d, job.r);
-    for i in 0..job.r {
+    let mut text = format!("mod {} terms {} degree {} factors {}\n", job.p, words[3], job.d, words[4]);
+    for i in 0..words[4] {
         text += &factor_text(&words, job.n as usize, i)?;
     }
     Ok(text)

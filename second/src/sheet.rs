@@ -10,6 +10,7 @@ use crate::polynomial::{
     Polynomial,
 };
 use crate::refusal::{beyond, composite, judge, length, modulus_range, short, terms, unknown, unreduced, when, Answer, Refusal};
+use crate::roots::roots;
 use crate::rows;
 
 /// The header words; after them stand the lengths.
@@ -214,8 +215,8 @@ fn powers(p: u32, f: &Polynomial, roots: &[u32]) -> Option<Vec<Root>> {
     (gives_f && found.iter().all(|&(_, m)| m >= 1)).then_some(found)
 }
 
-/// Writes a sheet with one term; the answer is its number of words. Each row of f below the top one has a known length.
-pub fn open(p: u32, d: u32, n: u32, f: &[u32], lengths: &[u32], roots: &[u32], out: &mut [u32]) -> Answer {
+/// What opening is given, judged up to its monic row; roots are counted on after the rows.
+fn judged(p: u32, d: u32, n: u32, f: &[u32], lengths: &[u32], roots: &[u32]) -> Result<Polynomial, Refusal> {
     judge(&[
         (1, &|| modulus_range(p)),
         (2, &|| composite(p)),
@@ -226,18 +227,34 @@ pub fn open(p: u32, d: u32, n: u32, f: &[u32], lengths: &[u32], roots: &[u32], o
     ])?;
     let n = n as usize;
     let f = polynomial(f, n);
-    judge(&[
-        (21, &|| unknown(&f, lengths)),
-        (7, &|| when(f[d as usize] != constant(1, n))),
-        (8, &|| when(roots.is_empty() || roots.len() > d as usize || roots.windows(2).any(|c| c[0] >= c[1]))),
-        (9, &|| when(powers(p, &f, roots).is_none())),
-    ])?;
-    let roots = powers(p, &f, roots).expect("judged");
+    judge(&[(21, &|| unknown(&f, lengths)), (7, &|| when(f[d as usize] != constant(1, n)))])?;
+    Ok(f)
+}
+
+/// Writes the sheet of these roots with one term, where they give f.
+fn fresh(p: u32, f: Polynomial, lengths: &[u32], roots: &[u32], out: &mut [u32]) -> Answer {
+    let found = powers(p, &f, roots);
+    judge(&[(9, &|| when(found.is_none()))])?;
+    let (n, roots) = (f[0].len(), found.expect("judged"));
     let factors = starting_factors(p, n, &roots);
     let all = Sheet { p, n, k: 1, lengths: lengths.to_vec(), roots, f, factors }.words();
     judge(&[(10, &|| short(out, all.len()))])?;
     out[..all.len()].copy_from_slice(&all);
     Ok(all.len() as u32)
+}
+
+/// Writes a sheet with one term; the answer is its number of words. Each row of f below the top one has a known length.
+pub fn open(p: u32, d: u32, n: u32, f: &[u32], lengths: &[u32], roots: &[u32], out: &mut [u32]) -> Answer {
+    let f = judged(p, d, n, f, lengths, roots)?;
+    judge(&[(8, &|| when(roots.is_empty() || roots.len() > d as usize || roots.windows(2).any(|c| c[0] >= c[1])))])?;
+    fresh(p, f, lengths, roots, out)
+}
+
+/// The same with no list of roots: they are found. Where f has too few of them at X = 0, they do not give it, which is 9.
+pub fn find(p: u32, d: u32, n: u32, f: &[u32], lengths: &[u32], out: &mut [u32]) -> Answer {
+    let f = judged(p, d, n, f, lengths, &[])?;
+    let roots: Vec<u32> = roots(p as u64, &column(&f, 0)).iter().map(|&c| c as u32).collect();
+    fresh(p, f, lengths, &roots, out)
 }
 
 fn sound(sheet: &[u32]) -> Option<Sheet> {

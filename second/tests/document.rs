@@ -1,5 +1,6 @@
-//! The examples of document 01, the sheet of F-8, F-2's moduli and job files, F-4's one call for the pair, F-5's quotients, and F-9's known lengths.
+//! The examples of document 01, the sheet of F-8, F-2's moduli and job files, F-4's one call for the pair, F-5's quotients, F-9's known lengths, and F-3's roots.
 
+use second::roots::roots;
 use second::{listing, numbers, pair, series, sheet, Refusal};
 
 fn refused(number: u32, detail: u32) -> Result<u32, Refusal> {
@@ -307,4 +308,107 @@ fn what_lengths_a_sound_sheet_has() {
     }
     words[19] = 1; // in row 0, past its length
     assert!(!sheet::test(&words));
+}
+
+/// Coefficients of the product of the Y − c, the lowest first.
+fn lines(p: u64, roots: &[u64]) -> Vec<u64> {
+    let mut f = vec![1];
+    for &c in roots {
+        f.insert(0, 0);
+        for j in 0..f.len() - 1 {
+            f[j] = (f[j] + f[j + 1] * (p - c)) % p;
+        }
+    }
+    f
+}
+
+/// On both sides of 4,096, from where numbers are not tried one by one.
+#[test]
+fn all_roots_are_found() {
+    for p in [2, 3, 5, 31, 4093, 4099, 65_521, 65_537, 16_777_183, 16_777_199, 16_777_213] {
+        let several: Vec<u64> = (0..32).map(|i| i * i * 524_287 % p).collect();
+        for of in [&several[..], &several[..5], &[0; 32], &[p - 1; 32], &[1; 7], &[0, 1], &[0, 0, p - 1, p - 1, p - 1]] {
+            let mut expected = of.to_vec();
+            expected.sort();
+            expected.dedup();
+            assert_eq!(roots(p, &lines(p, of)), expected, "{p} {of:?}");
+        }
+    }
+}
+
+/// Y² − c where c is no square, alone and with lines: none of the roots that are found, if any, give it.
+#[test]
+fn what_does_not_split_is_9() {
+    for (p, c) in [(3, 2), (7, 3), (4093, 2), (4099, 2), (65_521, 17), (16_777_213, 2)] {
+        let open = |f: &[u64]| {
+            let words: Vec<u32> = f.iter().map(|&a| a as u32).collect();
+            let d = words.len() - 1;
+            sheet::find(p as u32, d as u32, 1, &words, &vec![1; d], &mut [])
+        };
+        let square = [p - c, 0, 1];
+        assert_eq!(open(&square), refused(9, 0), "{p}");
+        for of in [&[0][..], &[1, 1, 2], &[0, 1, 2, 2, 2]] {
+            let line = lines(p, of);
+            let mut f = vec![0; line.len() + 2];
+            for (i, a) in line.iter().enumerate() {
+                square.iter().enumerate().for_each(|(j, b)| f[i + j] = (f[i + j] + a * b) % p);
+            }
+            assert_eq!(open(&f), refused(9, 0), "{p} {of:?}");
+        }
+    }
+    assert_eq!(sheet::find(2, 2, 1, &[1, 1, 1], &[1, 1], &mut []), refused(9, 0));
+}
+
+/// The sheet is that of the list of roots, and T has their number in it.
+#[test]
+fn a_sheet_without_a_list_of_roots() {
+    for (p, d, n, f, roots) in [(7, 2, 3, &SQUARE[..], &[1, 6][..]), (7, 3, 2, &CUBIC, &[1, 2, 4]), (2, 3, 2, &[0, 1, 0, 1, 1, 0, 1, 0], &[0, 1])] {
+        let lengths = vec![2; d];
+        let (mut found, mut opened) = ([9; 40], [9; 40]);
+        let total = sheet::open(p, d as u32, n, f, &lengths, roots, &mut opened).unwrap();
+        assert_eq!(sheet::find(p, d as u32, n, f, &lengths, &mut found[..total as usize - 1]), refused(10, total));
+        assert_eq!(found, [9; 40]);
+        assert_eq!(sheet::find(p, d as u32, n, f, &lengths, &mut found), Ok(total));
+        assert_eq!(found, opened);
+    }
+}
+
+/// As opening is judged, but that there are no roots to be counted and no list to be 8.
+#[test]
+fn finding_is_judged_in_open_s_order() {
+    let call = |f: &[u32], lengths: &[u32]| sheet::find(7, 2, 3, f, lengths, &mut []);
+    assert_eq!(sheet::find(1, 33, 257, &[9], &[], &mut []), refused(1, 0));
+    assert_eq!(sheet::find(91, 33, 257, &[9], &[], &mut []), refused(2, 7));
+    assert_eq!(sheet::find(7, 33, 257, &[9], &[], &mut []), refused(3, 0));
+    assert_eq!(sheet::find(7, 0, 257, &[9], &[], &mut []), refused(3, 0));
+    assert_eq!(sheet::find(7, 2, 257, &[9], &[], &mut []), refused(4, 0));
+    assert_eq!(call(&[9; 8], &[0, 0]), refused(5, 0));
+    assert_eq!(call(&[9; 9], &[0]), refused(5, 0));
+    assert_eq!(call(&[1, 1, 1, 1, 1, 1, 1, 1, 7], &[0, 0]), refused(6, 8));
+    assert_eq!(call(&[1, 1, 1, 1, 1, 1, 1, 1, 6], &[3, 4]), refused(21, 0));
+    assert_eq!(call(&[1, 1, 1, 1, 1, 1, 1, 1, 6], &[3, 2]), refused(21, 0));
+    assert_eq!(call(&[1, 1, 1, 1, 1, 1, 1, 1, 6], &[3, 3]), refused(7, 0));
+    assert_eq!(call(&[3, 1, 1, 1, 1, 1, 1, 0, 0], &[3, 3]), refused(9, 0)); // (Y + 4)² + 1
+    assert_eq!(call(&[1, 1, 1, 1, 1, 1, 1, 0, 0], &[3, 3]), refused(10, 32)); // (Y − 2) (Y − 4)
+}
+
+/// Both kinds of job file with r = 0: the rows begin where the roots would.
+#[test]
+fn jobs_without_roots() {
+    let found = "mod 7 terms 3 degree 2 factors 2\nroot 1 power 1\nY^0: 6 3 1\nroot 6 power 1\nY^0: 1 4 6\n";
+    let fields = [7, 2, 3, 0, 12, 12, 6, 6, 0, 0, 0, 0, 1, 0, 0];
+    assert_eq!(listing::text(&job(&fields)), found);
+    let mut wide = fields.map(u32::from);
+    wide[4..6].copy_from_slice(&[26, 26]);
+    assert_eq!(listing::text(&wide_job(&wide)), found);
+    let with = |at: usize, value: u16| {
+        let mut changed = fields;
+        changed[at] = value;
+        listing::text(&job(&changed))
+    };
+    assert_eq!(with(3, 1), "refused 5 0\n");
+    assert_eq!(with(5, 14), "refused 5 0\n");
+    assert_eq!(with(14, 7), "refused 6 8\n");
+    assert_eq!(with(13, 1), "refused 7 0\n");
+    assert_eq!(with(6, 1), "refused 9 0\n");
 }

@@ -9,9 +9,9 @@
 //! ```
 //! use bopkheul::Sheet;
 //!
-//! // Y² − 1 − X modulo 7: at X = 0 its roots are 1 and 6. Three terms.
+//! // Y² − 1 − X modulo 7, three terms. Its roots at X = 0 are found: they are 1 and 6.
 //! let f = [6, 6, 0, /* Y */ 0, 0, 0, /* Y² */ 1, 0, 0];
-//! let mut sheet = Sheet::open_known(7, 2, 3, &f, &[1, 6])?;
+//! let mut sheet = Sheet::find_known(7, 2, 3, &f)?;
 //! sheet.extend(3)?;
 //!
 //! let first = sheet.factor(0)?;
@@ -24,7 +24,8 @@
 //! # Ok::<(), bopkheul::Refusal>(())
 //! ```
 //!
-//! Here every entry is known. Where rows are known to different lengths, [`Sheet::open`] takes these lengths.
+//! Here every entry is known. Where rows are known to different lengths, [`Sheet::find`] takes these lengths. [`Sheet::open_known`] and [`Sheet::open`] are for
+//! roots that are known: they take the list of them.
 
 mod raw;
 mod refusal;

@@ -60,6 +60,7 @@ extern "C" {
         out: Out,
         out_count: usize,
     ) -> u64;
+    pub fn bk_sheet_find(p: u32, d: u32, n: u32, f: Words, f_count: usize, lengths: Words, lengths_count: usize, out: Out, out_count: usize) -> u64;
     pub fn bk_sheet_extend(sheet: Out, sheet_count: usize, w: u32) -> u64;
     pub fn bk_sheet_test(sheet: Words, sheet_count: usize) -> u64;
     pub fn bk_sheet_factor(sheet: Words, sheet_count: usize, i: u32, out: Out, out_count: usize) -> u64;

@@ -77,7 +77,7 @@ impl fmt::Display for Refusal {
             Kind::Unreduced => write!(to, "word {detail} of the input, counted from 0, is not below the modulus"),
             Kind::NotMonic => write!(to, "the top row is not 1, 0, 0, .., so the polynomial is not monic"),
             Kind::RootList => write!(to, "the list of roots is empty, longer than the degree, or not strictly rising"),
-            Kind::Unsplit => write!(to, "at X = 0 the polynomial is no product of powers of the listed roots"),
+            Kind::Unsplit => write!(to, "at X = 0 the polynomial does not split into lines Y - c, or not into those of the roots listed"),
             Kind::Short => write!(to, "the output is too short: {detail} words are needed, or bytes for a listing"),
             Kind::Flat => write!(to, "every row is 0 at X = 0, so there is no pair"),
             Kind::NoUnit => write!(to, "the divisor is 0 or has more of X than the dividend; or what is to be inverted begins with 0"),

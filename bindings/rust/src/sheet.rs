@@ -16,15 +16,17 @@
 //! Words past the total are free.
 //!
 //! ```
-//! // Y³ − 1 − X modulo 7 with two columns; at X = 0 its roots are 1, 2 and 4.
-//! let sheet = bopkheul::Sheet::open_known(7, 3, 2, &[6, 6, 0, 0, 0, 0, 1, 0], &[1, 2, 4])?;
+//! // Y³ − 1 − X modulo 7 with two columns; its roots at X = 0, which are 1, 2 and 4, are found
+//! let sheet = bopkheul::Sheet::find_known(7, 3, 2, &[6, 6, 0, 0, 0, 0, 1, 0])?;
 //! assert_eq!(sheet.words().len(), 11 + 3 + 2 * 3 + 7 * 2);
 //! assert_eq!(sheet.words()[..14], [7, 3, 2, 1, 3, 14, 20, 28, 34, 34, 2, /* lengths */ 2, 2, 2]);
+//! assert_eq!(sheet.words()[14..20], [1, 1, 2, 1, 4, 1]); // roots and powers
 //! # Ok::<(), bopkheul::Refusal>(())
 //! ```
 
 use crate::raw::{
-    answer, bk_sheet_extend, bk_sheet_factor, bk_sheet_factor_shift, bk_sheet_factor_times, bk_sheet_open, bk_sheet_replay, bk_sheet_test,
+    answer, bk_sheet_extend, bk_sheet_factor, bk_sheet_factor_shift, bk_sheet_factor_times, bk_sheet_find, bk_sheet_open, bk_sheet_replay,
+    bk_sheet_test,
 };
 use crate::{Answer, Refusal};
 use std::error::Error;
@@ -32,6 +34,22 @@ use std::fmt;
 
 /// The largest degree of a polynomial that a sheet can have.
 const LARGEST_DEGREE: usize = 32;
+
+/// The most columns that a sheet can have.
+const MOST_COLUMNS: usize = 256;
+
+/// A length for each row below the top one, all of them `n`.
+fn all_known(d: u32, n: u32) -> Vec<u32> {
+    // a larger degree is refused before the lengths are counted
+    vec![n; LARGEST_DEGREE.min(d as usize)]
+}
+
+/// Words that are enough for a sheet with any number of roots.
+fn most_words(d: u32, n: u32) -> usize {
+    // a larger degree or more columns are refused, and then no word is written
+    let (d, n) = (LARGEST_DEGREE.min(d as usize), MOST_COLUMNS.min(n as usize));
+    11 + d + 2 * d + (2 * d + 1) * n
+}
 
 /// Writes a sheet with one term to the front of `out`, from f, monic of degree `d`, the known lengths of its rows 0 to `d − 1`, and its roots at X = 0; the answer
 /// is its number of words.
@@ -44,6 +62,19 @@ pub fn open(p: u32, d: u32, n: u32, f: &[u32], lengths: &[u32], roots: &[u32], o
     let (to, room) = (out.as_mut_ptr(), out.len());
     // SAFETY: each pointer goes with the count of its slice, and `out` overlaps no input.
     answer(unsafe { bk_sheet_open(p, d, n, f.as_ptr(), f.len(), lengths.as_ptr(), lengths.len(), roots.as_ptr(), roots.len(), to, room) })
+}
+
+/// Finds all roots of f at X = 0, and writes what [`open`] writes with the list of them; the answer is the number of words. That depends on the number of roots, and
+/// 11 + 3d + (2d + 1)n words are always enough.
+///
+/// # Errors
+///
+/// Refused by 1, 2, 3, 4, 5, 6, 21, 7, 9 or 10, in this order; by 9 where f at X = 0 does not split into lines Y − c, and nowhere else. Positions in the detail of 6
+/// are counted along f.
+pub fn find(p: u32, d: u32, n: u32, f: &[u32], lengths: &[u32], out: &mut [u32]) -> Answer {
+    let (to, room) = (out.as_mut_ptr(), out.len());
+    // SAFETY: each pointer goes with the count of its slice, and `out` overlaps no input.
+    answer(unsafe { bk_sheet_find(p, d, n, f.as_ptr(), f.len(), lengths.as_ptr(), lengths.len(), to, room) })
 }
 
 /// Works a sheet on to `w` terms; the answer is `w`.
@@ -196,9 +227,55 @@ impl Sheet {
     ///
     /// Refused by one of 1 to 9.
     pub fn open_known(p: u32, d: u32, n: u32, f: &[u32], roots: &[u32]) -> Result<Sheet, Refusal> {
-        // a larger degree is refused before the lengths are counted
-        let rows = LARGEST_DEGREE.min(d as usize);
-        Sheet::open(p, d, n, f, &[n; LARGEST_DEGREE][..rows], roots)
+        Sheet::open(p, d, n, f, &all_known(d, n), roots)
+    }
+
+    /// A sheet with one term, from f and the known lengths of its rows as [`Sheet::open`] takes them. The roots at X = 0 are found, and the sheet is the one that
+    /// [`Sheet::open`] gives with the list of them.
+    ///
+    /// ```
+    /// // Y³ − Y² + XY + .. modulo 5: of the row at Y^1 the third term is not known. At X = 0 it is Y² (Y − 1)
+    /// let f = [0, 0, 0, /* Y */ 0, 1, 0, /* Y² */ 4, 0, 0, /* Y³ */ 1, 0, 0];
+    /// let sheet = bopkheul::Sheet::find(5, 3, 3, &f, &[3, 2, 3])?;
+    /// assert_eq!(sheet, bopkheul::Sheet::open(5, 3, 3, &f, &[3, 2, 3], &[0, 1])?);
+    /// assert_eq!((sheet.factor(0)?.root, sheet.factor(0)?.power), (0, 2));
+    /// assert_eq!((sheet.factor(1)?.root, sheet.factor(1)?.power), (1, 1));
+    /// # Ok::<(), bopkheul::Refusal>(())
+    /// ```
+    ///
+    /// # Errors
+    ///
+    /// Refused by 1, 2, 3, 4, 5, 6, 21, 7 or 9, in this order, as [`find`] is: by 9 where f at X = 0 does not split into lines Y − c.
+    pub fn find(p: u32, d: u32, n: u32, f: &[u32], lengths: &[u32]) -> Result<Sheet, Refusal> {
+        let mut words = vec![0; most_words(d, n)]; // to ask for the words needed would be to find the roots twice
+        let total = find(p, d, n, f, lengths, &mut words)?;
+        words.truncate(total as usize);
+        Ok(Sheet { words })
+    }
+
+    /// A sheet with one term, as [`Sheet::find`] gives it, of a polynomial whose entries are all known: every length is `n`. Nothing but the polynomial is
+    /// needed.
+    ///
+    /// ```
+    /// // Y⁴ − 5Y² + 4 + X modulo 101, with two columns
+    /// let f = [4, 1, /* Y */ 0, 0, /* Y² */ 96, 0, /* Y³ */ 0, 0, /* Y⁴ */ 1, 0];
+    /// let mut sheet = bopkheul::Sheet::find_known(101, 4, 2, &f)?;
+    /// sheet.extend(2)?;
+    /// let found: Vec<u32> = (0..sheet.count()).map(|i| sheet.factor(i).map(|factor| factor.root)).collect::<Result<_, _>>()?;
+    /// assert_eq!(found, [1, 2, 99, 100]);
+    /// assert_eq!(sheet.factor(1)?.row(0), [99, 59]); // Y − 2 + 59X, since 12 · 59 is 1 modulo 101
+    ///
+    /// // Y² − 2 has no root modulo 101
+    /// let refusal = bopkheul::Sheet::find_known(101, 2, 1, &[99, 0, 1]).unwrap_err();
+    /// assert_eq!(refusal.kind(), bopkheul::Kind::Unsplit);
+    /// # Ok::<(), bopkheul::Refusal>(())
+    /// ```
+    ///
+    /// # Errors
+    ///
+    /// Refused by one of 1 to 7, or by 9.
+    pub fn find_known(p: u32, d: u32, n: u32, f: &[u32]) -> Result<Sheet, Refusal> {
+        Sheet::find(p, d, n, f, &all_known(d, n))
     }
 
     /// A sheet from words that were stored. Words past the sheet's end are kept.

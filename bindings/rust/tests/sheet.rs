@@ -71,6 +71,74 @@ fn all_known_is_refused_as_lengths_are() {
     assert_eq!(Sheet::open_known(2, 3, 3, &F, &[0, 1]), equal);
 }
 
+/// Room is made for as many roots as the degree, and what is not used of it is given up.
+#[test]
+fn roots_are_found() {
+    let mut sheet = Sheet::find_known(2, 3, 3, &F).expect("f splits");
+    assert_eq!(sheet, Sheet::open_known(2, 3, 3, &F, &[0, 1]).expect("f splits so"));
+    assert_eq!(sheet.words().len(), WORDS.len());
+    assert_eq!(sheet.extend(2), Ok(2));
+    assert_eq!(sheet.words(), WORDS);
+
+    let short = Sheet::find(2, 3, 3, &F, &SHORT).expect("f splits");
+    assert_eq!(short, Sheet::open(2, 3, 3, &F, &SHORT, &[0, 1]).expect("f splits so"));
+    assert_ne!(short.words()[10..14], sheet.words()[10..14]);
+}
+
+/// The sheets that take most words: degree 32 with 256 columns, of one root, of as many as there are, and of 32.
+#[test]
+fn the_largest_sheets_are_found() {
+    for (p, roots) in [(7, vec![0]), (31, (0..31).collect()), (16_777_213, (0..32).map(|i| 524_287 * i).collect::<Vec<u32>>())] {
+        let mut f = vec![0; 33 * 256];
+        let mut at_zero = vec![0; 32 - roots.len()]; // 0 as often as there are roots too few
+        at_zero.push(1);
+        for &c in &roots {
+            at_zero.insert(0, 0);
+            for j in 0..at_zero.len() - 1 {
+                at_zero[j] = (at_zero[j] + at_zero[j + 1] * (p - c) as u64) % p as u64;
+            }
+        }
+        at_zero.iter().enumerate().for_each(|(j, &a)| f[256 * j] = a as u32);
+        let found = Sheet::find_known(p, 32, 256, &f).expect("f splits");
+        assert_eq!(found.words().len(), 11 + 32 + 2 * roots.len() + 65 * 256);
+        assert_eq!(found, Sheet::open_known(p, 32, 256, &f, &roots).expect("f splits so"));
+    }
+}
+
+#[test]
+fn what_finding_is_refused_by() {
+    let refused = |number, detail| Err(Refusal { number, detail });
+    let found = |f: &[u32], lengths: &[u32]| Sheet::find(2, 3, 3, f, lengths).map(drop);
+    assert_eq!(Sheet::find(1 << 24, 3, 3, &F, &SHORT).map(drop), refused(1, 0));
+    assert_eq!(Sheet::find(91, 3, 3, &F, &SHORT).map(drop), refused(2, 7));
+    assert_eq!(found(&F[1..], &SHORT), refused(5, 0));
+    assert_eq!(found(&F, &SHORT[1..]), refused(5, 0));
+    let with = |at: usize, word: u32| {
+        let mut f = F;
+        f[at] = word;
+        f
+    };
+    assert_eq!(found(&with(11, 2), &[0; 3]), refused(6, 11));
+    assert_eq!(found(&with(11, 1), &[3, 1, 3]), refused(21, 0));
+    assert_eq!(found(&with(11, 1), &SHORT), refused(7, 0));
+    assert_eq!(found(&with(0, 1), &SHORT), refused(9, 0)); // Y³ + Y² + 1 has no root modulo 2
+    assert_eq!(found(&with(3, 1), &SHORT), refused(9, 0)); // Y (Y² + Y + 1)
+    let mut out = [9; 38];
+    assert_eq!(sheet::find(2, 3, 3, &with(0, 1), &SHORT, &mut out).map(drop), refused(9, 0));
+    assert_eq!(sheet::find(2, 3, 3, &F, &SHORT, &mut out).map(drop), refused(10, 39));
+    assert_eq!(out, [9; 38]);
+}
+
+/// As finding with the lengths written out is refused, whatever the degree and the columns; no room for that many words is made.
+#[test]
+fn finding_is_refused_as_opening_is() {
+    for (d, n) in [(0, 3), (33, 3), (u32::MAX, 3), (u32::MAX, 0), (3, 0), (3, 257), (3, u32::MAX), (2, 3), (32, 3), (u32::MAX, u32::MAX)] {
+        let expected = Sheet::open_known(2, d, n, &F, &[0, 1]).map(drop).expect_err("not the words of f");
+        assert_eq!(Sheet::find_known(2, d, n, &F).map(drop), Err(expected), "{d} {n}");
+        assert_eq!(Sheet::find(2, d, n, &F, &[]).map(drop), Err(expected), "{d} {n}");
+    }
+}
+
 /// 1 + X and 1 + X² modulo 2.
 #[test]
 fn sums_and_products_to_the_lesser_count() {

@@ -12,14 +12,14 @@ use native.Mathlib.Nat.{not-suc-le-zero, le-of-suc-le-suc, eq-or-lt-of-le, lt-of
 use native.Mathlib.Decide.{decLe}
 use native.Mathlib.Omega.{arith}
 use mathlib.Core.Path.{_≡_, refl, sym, _∙_, ap, ap₂, subst, fun-ext}
-use mathlib.Core.Logic.{_≢_, ⊎-elim}
+use mathlib.Core.Logic.{_≢_, _⊎_, inl, ⊎-elim}
 use Rattle.algebra.specs.Sums.{sumTo}
 use Rattle.algebra.proofs.SumsLaws.{sumTo-zero, sumTo-front}
 use Rattle.algebra.specs.internal.Ring.{CommRing, prod}
-use Rattle.algebra.proofs.RingLaws.{IsField, prod-zero, prod-suc, prod-ext, prodFrom}
+use Rattle.algebra.proofs.RingLaws.{IsField, pow-zero, prod-zero, prod-suc, prod-ext, prodFrom}
 use Rattle.algebra.specs.internal.Series.{Series, cons, conv, one-conv}
 use Rattle.algebra.proofs.SeriesLaws.{zero-at, one-at, prod-agree, prod-at-zero}
-use Rattle.algebra.specs.internal.Poly.{linPow, Columns}
+use Rattle.algebra.specs.internal.Poly.{lin, linPow, Columns}
 use Rattle.algebra.proofs.PolyLaws.{Below, eval, below-more, below-one, below-𝟘, below-tight, below-linPow, linPow-top, poly-pow, poly-lin, Root, NonRoot, root-mul, root-linPow, nonroot-one, nonroot-mul, nonroot-linPow}
 use Rattle.algebra.proofs.ColumnsLaws.{mul-columns, conv-below, conv-top}
 use Rattle.algebra.proofs.Lift.{Factor, factor-exists, factor-unique}
@@ -107,12 +107,19 @@ module _ {R : Type 0} (𝓡 : CommRing R) where
       (root-mul 𝓡 (c zero) _ _ (poly-pow 𝓡 (poly-lin 𝓡 (c zero)) (m zero)) (_, at-zero-below r (λ i. c (suc i)) (λ i. m (suc i))) (root-linPow 𝓡 (c zero) (m zero) l))
 
   module _ (field : IsField 𝓡) where
-    pub at-zero-nonroot : (r : ℕ) (c : ℕ → R) (m : ℕ → ℕ) (x : R) → ((i : ℕ) → i < r → x ≢ c i) → NonRoot 𝓡 x (at-zero r c m)
-    at-zero-nonroot zero c m x ne = rw prod-zero (nonroot-one 𝓡 (field .nontrivial) x)
-    at-zero-nonroot (suc r) c m x ne =
+    -- a root with the power 0 is none
+    pub nonroot-some : (r : ℕ) (c : ℕ → R) (m : ℕ → ℕ) (x : R) → ((i : ℕ) → i < r → (x ≢ c i) ⊎ (m i ≡ zero)) → NonRoot 𝓡 x (at-zero r c m)
+    nonroot-some zero c m x h = rw prod-zero (nonroot-one 𝓡 (field .nontrivial) x)
+    nonroot-some (suc r) c m x h =
         rw (prod-suc (Series 𝓡) r (λ i. linPow 𝓡 (c i) (m i)))
         (nonroot-mul 𝓡 field x _ _ (poly-pow 𝓡 (poly-lin 𝓡 (c zero)) (m zero)) (_, at-zero-below r (λ i. c (suc i)) (λ i. m (suc i)))
-        (nonroot-linPow 𝓡 field x (c zero) (ne zero (omega arith)) (m zero)) (at-zero-nonroot r (λ i. c (suc i)) (λ i. m (suc i)) x (λ i l. ne (suc i) (omega arith))))
+        (⊎-elim (λ (ne : x ≢ c zero). nonroot-linPow 𝓡 field x (c zero) ne (m zero))
+        (λ (z : m zero ≡ zero). subst (NonRoot 𝓡 x) (sym (ap (linPow 𝓡 (c zero)) z ∙ pow-zero (Series 𝓡) (lin 𝓡 (c zero)))) (nonroot-one 𝓡 (field .nontrivial) x))
+        (h zero (omega arith)))
+        (nonroot-some r (λ i. c (suc i)) (λ i. m (suc i)) x (λ i l. h (suc i) (omega arith))))
+
+    pub at-zero-nonroot : (r : ℕ) (c : ℕ → R) (m : ℕ → ℕ) (x : R) → ((i : ℕ) → i < r → x ≢ c i) → NonRoot 𝓡 x (at-zero r c m)
+    at-zero-nonroot r c m x ne = nonroot-some r c m x (λ i l. inl (ne i l))
 
   pub record IsChain (r : ℕ) (c : ℕ → R) (m : ℕ → ℕ) (F : ℕ → ℕ → ℕ → R) : Type 0 where
     pub powers : (i : ℕ) → i < r → 1 ≤ m i

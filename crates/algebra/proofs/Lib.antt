@@ -8,6 +8,9 @@ pub mod Multiplicity
 pub mod ColumnsLaws
 pub mod Lift
 pub mod Chain
+pub mod Roots
 pub mod Shift
 pub mod FpLaws
 pub mod BridgeLaws
+pub mod Fermat
+pub mod Modulo

@@ -8,12 +8,12 @@
 --   NonRoot x a    a is not 0 at x, whatever bound of its degree is taken
 -- Assumes nothing.
 use Prim.Native.Nat.{ℕ, zero, suc, _+_ as _+ₙ_, _≤_, zero-le, suc-le-suc}
-use native.Mathlib.Nat.{le-of-suc-le-suc, not-suc-le-zero}
+use native.Mathlib.Nat.{le-of-suc-le-suc, not-suc-le-zero, eq-or-lt-of-le}
 use native.Mathlib.Omega.{arith}
-use mathlib.Core.Path.{_≡_, refl, sym, _∙_, ap, subst, fun-ext}
-use mathlib.Core.Logic.{_≢_}
-use Rattle.algebra.specs.internal.Ring.{CommRing, ring, units, add-assoc, add-left-comm, add-zero, zero-add, mul-assoc, mul-left-comm, one-mul, mul-zero, zero-mul, mul-add, neg-add, add-cancel-left, add-cancel-right, pow}
-use Rattle.algebra.proofs.RingLaws.{IsField, no-zero-divisor, minus, expand, neg-zero, pow-zero, pow-suc, pow-zero-mul, pow-suc-mul}
+use mathlib.Core.Path.{_≡_, refl, sym, _∙_, ap, ap₂, subst, fun-ext}
+use mathlib.Core.Logic.{_≢_, ⊎-elim}
+use Rattle.algebra.specs.internal.Ring.{CommRing, ring, units, add-assoc, add-left-comm, add-zero, zero-add, mul-assoc, mul-left-comm, one-mul, mul-zero, zero-mul, mul-add, add-neg, neg-add, add-cancel-left, add-cancel-right, pow}
+use Rattle.algebra.proofs.RingLaws.{IsField, no-zero-divisor, minus, expand, neg-unique, neg-zero, pow-zero, pow-suc, pow-zero-mul, pow-suc-mul}
 use Rattle.algebra.specs.internal.Series.{tail, cons, Series}
 use Rattle.algebra.proofs.SeriesLaws.{sum, sum-zero, sum-suc, sum-scale, add-at, neg-at, zero-at, one-at, mul-at-zero, mul-at-suc}
 use Rattle.algebra.specs.internal.Poly.{const, lin, linPow}
@@ -78,6 +78,9 @@ module _ {R : Type 0} (𝓡 : CommRing R) where
 
   pub below-more : {n k : ℕ} {a : ℕ → R} → n ≤ k → Below n a → Below k a
   below-more l h j g = h j (omega arith)
+
+  pub below-last : {n : ℕ} {a : ℕ → R} → Below (suc n) a → a n ≡ 𝟘 → Below n a
+  below-last {n} {a} h e j l = ⊎-elim (λ (z : n ≡ j). ap a (sym z) ∙ e) (h j) (eq-or-lt-of-le l)
 
   pub below-tail : {n : ℕ} {a : ℕ → R} → Below (suc n) a → Below n (tail a)
   below-tail h j l = h (suc j) (suc-le-suc l)
@@ -168,6 +171,9 @@ module _ {R : Type 0} (𝓡 : CommRing R) where
     horner-none : (n : ℕ) (t : ℕ) → horner n 𝟘ₛ t ≡ 𝟘
     horner-none zero t = horner-zero 𝟘ₛ t
     horner-none (suc n) t = simp (horner-suc, zero-at, horner-none n (suc t), units, 𝓡)
+
+    pub eval-neg : (n : ℕ) (a : ℕ → R) → eval n (⊖ a) ≡ neg (eval n a)
+    eval-neg n a = sym (neg-unique 𝓡 (sym (eval-add n a (⊖ a)) ∙ ap (eval n) (add-neg (Series 𝓡) a) ∙ horner-none n zero))
 
     pub eval-const : (n : ℕ) (x : R) → eval (suc n) (const 𝓡 x) ≡ x
     unfolding const
@@ -314,6 +320,13 @@ module _ {R : Type 0} (𝓡 : CommRing R) where
   unfolding lin
   eval-lin x c = eval-suc x 1 (lin 𝓡 c) ∙ ap (λ y. neg c + x * y) (ap (eval x 1) one-const ∙ eval-const x zero 𝟙) ∙ simp (units, 𝓡)
 
+  pub eval-linPow : (x c : R) (m : ℕ) → eval x (suc m) (linPow 𝓡 c m) ≡ pow 𝓡 (neg c + x) m
+  eval-linPow x c zero = ap (eval x 1) (pow-zero (Series 𝓡) (lin 𝓡 c) ∙ one-const) ∙ eval-const x zero 𝟙 ∙ sym (pow-zero 𝓡 (neg c + x))
+  eval-linPow x c (suc m) =
+      ap (eval x (suc (suc m))) (pow-suc (Series 𝓡) (lin 𝓡 c) m)
+      ∙ eval-mul x (suc m) (linPow 𝓡 c m) (below-linPow c m) 2 (suc (suc m)) (lin 𝓡 c) (below-lin c) (below-lin-mul c (below-linPow c m))
+      ∙ ap₂ _*_ (eval-lin x c) (eval-linPow x c m) ∙ sym (pow-suc 𝓡 (neg c + x) m)
+
   abbrev pub Root : R → (ℕ → R) → Type 0
   Root x a = (n : ℕ) → Below n a → eval x n a ≡ 𝟘
 
@@ -352,16 +365,21 @@ module _ {R : Type 0} (𝓡 : CommRing R) where
 -- powers of Y: the root 0
 module _ {R : Type 0} (𝓡 : CommRing R) where
   open CommRing 𝓡 using (𝟘, add as _+_, mul as _*_, neg)
-  open CommRing (Series 𝓡) using (mul as _⊛_)
+  open CommRing (Series 𝓡) using (add as _⊕_, mul as _⊛_)
 
   infixl 65 _+_
   infixl 70 _*_
+  infixl 65 _⊕_
   infixl 70 _⊛_
-  y-mul-zero : (q : ℕ → R) → (lin 𝓡 𝟘 ⊛ q) zero ≡ 𝟘
+  pub y-mul-zero : (q : ℕ → R) → (lin 𝓡 𝟘 ⊛ q) zero ≡ 𝟘
   y-mul-zero q = lin-mul-zero 𝓡 𝟘 q ∙ simp (minus, 𝓡)
 
-  y-mul-suc : (q : ℕ → R) (t : ℕ) → (lin 𝓡 𝟘 ⊛ q) (suc t) ≡ q t
+  pub y-mul-suc : (q : ℕ → R) (t : ℕ) → (lin 𝓡 𝟘 ⊛ q) (suc t) ≡ q t
   y-mul-suc q t = lin-mul-suc 𝓡 𝟘 q t ∙ simp (minus, 𝓡)
+
+  -- a polynomial from its first coefficient and the others
+  pub head-tail : (a : ℕ → R) → const 𝓡 (a zero) ⊕ lin 𝓡 𝟘 ⊛ tail a ≡ a
+  head-tail a = fun-ext (elim [ zero ↦ simp (add-at, const-coeff-zero, y-mul-zero, minus, 𝓡) | suc t ↦ simp (add-at, const-coeff-suc, y-mul-suc, minus, 𝓡) ])
 
   -- Y^d · a has the coefficients of a, moved up by d
   pub yPow-high : (d : ℕ) (a : ℕ → R) (j : ℕ) → (linPow 𝓡 𝟘 d ⊛ a) (d +ₙ j) ≡ a j

@@ -3,11 +3,11 @@
 --   IsField           0 ≠ 1, and whatever is not 0 has an inverse
 -- `simp (ring, minus)` proves an identity of moderate size, opposites included. Assumes nothing.
 use Prim.Native.Nat.{ℕ, zero, suc, _+_ as _+ₙ_, _-_, _<_}
-use native.Mathlib.Nat.{sub-zero, zero-add as zeroₙ-add}
+use native.Mathlib.Nat.{sub-zero, suc-add, zero-add as zeroₙ-add}
 use native.Mathlib.Omega.{arith}
 use mathlib.Core.Path.{_≡_, refl, sym, _∙_, ap, ap₂}
 use mathlib.Core.Logic.{_≢_}
-use Rattle.algebra.specs.internal.Ring.{CommRing, add-assoc, add-zero, add-neg, mul-assoc, mul-comm, mul-add, neg-add, one-mul, add-mul, add-left-comm, add-neg-add, neg-add-add, add-cancel-right, mul-zero, zero-mul, pow, prod, ring, units}
+use Rattle.algebra.specs.internal.Ring.{CommRing, add-assoc, add-zero, add-neg, mul-assoc, mul-comm, mul-one, mul-add, neg-add, one-mul, add-mul, add-left-comm, add-neg-add, neg-add-add, add-cancel-right, mul-zero, zero-mul, pow, prod, ring, units}
 
 module _ {R : Type 0} (𝓡 : CommRing R) where
   open CommRing 𝓡 using (𝟘, 𝟙, add as _+_, mul as _*_, neg)
@@ -75,11 +75,26 @@ module _ {R : Type 0} (𝓡 : CommRing R) where
   unfolding pow
   pow-suc a m = refl
 
+  pub pow-first : (a : R) → pow 𝓡 a 1 ≡ a
+  pow-first a = pow-suc a zero ∙ ap (λ x. a * x) (pow-zero a) ∙ mul-one 𝓡 a
+
+  pub pow-one : (m : ℕ) → pow 𝓡 𝟙 m ≡ 𝟙
+  pow-one zero = pow-zero 𝟙
+  pow-one (suc m) = pow-suc 𝟙 m ∙ one-mul 𝓡 (pow 𝓡 𝟙 m) ∙ pow-one m
+
+  pub pow-none : (m : ℕ) → 0 < m → pow 𝓡 𝟘 m ≡ 𝟘
+  pow-none (suc m) l = pow-suc 𝟘 m ∙ zero-mul 𝓡 (pow 𝓡 𝟘 m)
+
   pub pow-zero-mul : (a b : R) → pow 𝓡 a zero * b ≡ b
   pow-zero-mul a b = simp (pow-zero, one-mul)
 
   pub pow-suc-mul : (a : R) (m : ℕ) (b : R) → pow 𝓡 a (suc m) * b ≡ a * (pow 𝓡 a m * b)
   pow-suc-mul a m b = simp (pow-suc, mul-assoc)
+
+  pub pow-add : (a : R) (m n : ℕ) → pow 𝓡 a (m +ₙ n) ≡ pow 𝓡 a m * pow 𝓡 a n
+  pow-add a zero n = ap (pow 𝓡 a) (zeroₙ-add n) ∙ sym (pow-zero-mul a (pow 𝓡 a n))
+  pow-add a (suc m) n =
+      ap (pow 𝓡 a) (suc-add m n) ∙ pow-suc a (m +ₙ n) ∙ ap (λ x. a * x) (pow-add a m n) ∙ sym (pow-suc-mul a m (pow 𝓡 a n))
 
   pub prod-zero : (F : ℕ → R) → prod 𝓡 zero F ≡ 𝟙
   unfolding prod

@@ -11,7 +11,7 @@ use Rattle.algebra.proofs.RingLaws.{minus, neg-neg, expand, pow-zero, p
 use Rattle.algebra.specs.internal.Series.{Series, tail, conv, conv-zero, conv-suc}
 use Rattle.algebra.proofs.SeriesLaws.{sum, sum-zero, sum-suc, sum-scale, sum-ext, add-at, mul-at-zero, mul-at-suc, sum-at, tail-add}
 use Rattle.algebra.specs.internal.Poly.{const, lin, linPow, Columns}
-use Rattle.algebra.proofs.PolyLaws.{const-coeff-zero, const-coeff-suc, lin-coeff-zero, lin-coeff-suc, lin-mul-zero, lin-mul-suc, const-mul, const-const, const-zero, const-add, one-const, Below, below-zero, below-more, below-tail, below-𝟘, below-add, below-const, below-one, below-lin, below-mul, below-lin-mul, poly-pow, horner-zero, eval, eval-suc, eval-add, eval-const, eval-mul, eval-lin}
+use Rattle.algebra.proofs.PolyLaws.{const-coeff-zero, const-coeff-suc, lin-coeff-zero, lin-coeff-suc, const-mul, const-const, const-zero, const-add, one-const, Below, below-zero, below-more, below-tail, below-𝟘, below-add, below-const, below-one, below-lin, below-mul, below-lin-mul, poly-pow, horner-zero, eval, eval-suc, eval-add, eval-const, eval-mul, eval-lin, head-tail}
 use Rattle.algebra.proofs.ColumnsLaws.{mul-columns, conv-below}
 
 -- the identities behind it, over ring variables
@@ -37,10 +37,6 @@ module _ {R : Type 0} (𝓡 : CommRing R) where
   unfoldable pub shift : R → ℕ → (ℕ → R) → ℕ → R
   shift c zero a = 𝟘ₛ
   shift c (suc n) a = const 𝓡 (a zero) ⊕ lin 𝓡 (neg c) ⊛ shift c n (tail a)
-
-  -- a polynomial from its first coefficient and the others
-  head-tail : (a : ℕ → R) → const 𝓡 (a zero) ⊕ lin 𝓡 𝟘 ⊛ tail a ≡ a
-  head-tail a = fun-ext (elim [ zero ↦ simp (add-at, const-coeff-zero, lin-mul-zero, minus, 𝓡) | suc t ↦ simp (add-at, const-coeff-suc, lin-mul-suc, minus, 𝓡) ])
 
   tail-scale : (x : R) (a : ℕ → R) → tail (const 𝓡 x ⊛ a) ≡ const 𝓡 x ⊛ tail a
   tail-scale x a = fun-ext (λ t. const-mul 𝓡 x a (suc t) ∙ sym (const-mul 𝓡 x (tail a) t))
@@ -186,7 +182,7 @@ module _ {R : Type 0} (𝓡 : CommRing R) where
       ∙ ap₂ _⊕_ (shift-const (neg c) n (a zero))
       (shift-mul-at (neg c) 2 n (suc n) M s (below-lin 𝓡 (neg c)) b (below-lin-mul 𝓡 (neg c) b)
       ∙ ap₂ _⊛_ (shift-lin (neg c) zero (neg c) ∙ ap (lin 𝓡) (add-neg 𝓡 (neg c))) (shift-inverse c n (tail a) (below-tail 𝓡 h)))
-      ∙ head-tail a
+      ∙ head-tail 𝓡 a
 
   pub inverse-shift : (c : R) (n : ℕ) (a : ℕ → R) → Below 𝓡 n a → shift c n (shift (neg c) n a) ≡ a
   inverse-shift c n a h = ap (λ x. shift x n (shift (neg c) n a)) (sym (neg-neg 𝓡 c)) ∙ shift-inverse (neg c) n a h

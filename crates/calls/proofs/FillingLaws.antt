@@ -8,7 +8,7 @@ use native.Mathlib.Nat.{eq-or-lt-of-le}
 use native.Mathlib.Omega.{arith}
 use mathlib.Core.Path.{_≡_, refl, sym, _∙_, ap, subst, fun-ext}
 use mathlib.Core.Logic.{_≢_, ⊎-elim}
-use mathlib.Core.List.{List}
+use mathlib.Core.List.{List, _++_}
 use lib.Dec.{eqb}
 use lib.ListN.{length, set, length-set}
 use lib.Seq.{getD-set-same, getD-set-other}
@@ -23,9 +23,9 @@ use Rattle.hensel.specs.Factors.{split}
 use Rattle.layout.proofs.RegionsLaws.{in-rows}
 use Rattle.sheet.specs.Sheet.{Given, given-reach, given-polynomial}
 use Rattle.sheet.proofs.HoldsLaws.{holds-reach}
-use Rattle.open.specs.Open.{choices, find, splitsTest, powersOf, needed, openVerdict}
-use Rattle.open.proofs.OpenChecksLaws.{ListPass, list-passes, whole-list}
-use Rattle.open.proofs.OpenSplitLaws.{split-pass}
+use Rattle.open.specs.Open.{choices, find, splitsTest, powersOf, needed, openVerdict, polynomialChecks, listChecks}
+use Rattle.open.proofs.OpenChecksLaws.{ListPass, list-passes, whole-list, open-rows-split}
+use Rattle.open.proofs.OpenSplitLaws.{split-some, room-pass}
 use Rattle.open.proofs.OpeningLaws.{open-passed}
 use Rattle.calls.specs.Calls.{SameGiven}
 use Rattle.calls.specs.Filling.{filled, Fills, SameFilled, OwnFilled, ApartFilled}
@@ -64,14 +64,14 @@ module _ (g : Given) (h : ListPass g) where
     f = filled g rows
 
     filled-list : ListPass f
-    filled-list = whole-list g h rows (F .long) (reduced (g .p) rows (F .reduced)) (λ t l. F .top t l ∙ h .top t l)
+    filled-list = whole-list g rows (F .long) (reduced (g .p) rows (F .reduced)) (λ t l. F .top t l ∙ h .rows .top t l) h
 
     -- every row is known at X = 0
     column-zero : (j : ℕ) → j ≤ g .D → given-polynomial f j zero ≡ given-polynomial g j zero
     column-zero j l =
         ⊎-elim
-        (λ (e : j ≡ g .D). subst (λ x. given-polynomial f x zero ≡ given-polynomial g x zero) (sym e) (F .top zero (h .polynomial .width-low)))
-        (λ (u : j < g .D). F .known j u zero (h .lengths j u .low))
+        (λ (e : j ≡ g .D). subst (λ x. given-polynomial f x zero ≡ given-polynomial g x zero) (sym e) (F .top zero (h .rows .polynomial .width-low)))
+        (λ (u : j < g .D). F .known j u zero (h .rows .lengths j u .low))
         (eq-or-lt-of-le l)
 
     tests-same : (l : List ℕ) → splitsTest f l ≡ splitsTest g l
@@ -83,7 +83,7 @@ module _ (g : Given) (h : ListPass g) where
     powers-same = ap (λ test. find test (choices (length (g .roots)) (g .D))) (fun-ext tests-same)
 
   own : Fills g (g .rows)
-  own = record { long = h .polynomial .long; reduced = below-reduced (g .p) (g .rows) (h .polynomial .rows-below); known = λ j l t u. refl; top = λ t l. refl }
+  own = record { long = h .rows .polynomial .long; reduced = below-reduced (g .p) (g .rows) (h .rows .polynomial .rows-below); known = λ j l t u. refl; top = λ t l. refl }
 
   -- one entry that is not known, made 1: row j is known to m terms
   module _ (j m : ℕ) (low : j < g .D) (is : word (g .lengths) j ≡ m) (short : m < N) where
@@ -94,7 +94,7 @@ module _ (g : Given) (h : ListPass g) where
     other = set (g .rows) place 1
 
     fits : place < length (g .rows)
-    fits = omega (arith, h .polynomial .long, in-rows (g .D + 1) N j m (omega arith) short)
+    fits = omega (arith, h .rows .polynomial .long, in-rows (g .D + 1) N j m (omega arith) short)
 
     -- words of other rows, and of other columns, stand elsewhere
     row-apart : (i t : ℕ) → t < N → i ≢ j → 0 + i * N + t ≢ place
@@ -108,7 +108,7 @@ module _ (g : Given) (h : ListPass g) where
 
     column-apart : (i t : ℕ) → i < g .D → t < word (g .lengths) i → 0 + i * N + t ≢ place
     column-apart i t l u e =
-        let v = h .lengths i l .high in
+        let v = h .rows .lengths i l .high in
         ⊎-elim
         (λ (w : i < j). row-apart i t (omega arith) (omega arith) e)
         (λ (w : j ≤ i). ⊎-elim
@@ -119,19 +119,22 @@ module _ (g : Given) (h : ListPass g) where
 
     made : Fills g other
     made = record {
-      long = length-set (g .rows) place 1 ∙ h .polynomial .long;
-      reduced = below-reduced (g .p) other (set-below (g .p) (g .rows) place 1 (h .polynomial .modulus .prime .two-le) (h .polynomial .rows-below));
+      long = length-set (g .rows) place 1 ∙ h .rows .polynomial .long;
+      reduced = below-reduced (g .p) other (set-below (g .p) (g .rows) place 1 (h .rows .polynomial .modulus .prime .two-le) (h .rows .polynomial .rows-below));
       known = λ i l t u. elsewhere i t (column-apart i t l u);
       top = λ t l. elsewhere (g .D) t (row-apart (g .D) t l (omega arith));
     }
 
     apart : given-polynomial (filled g (g .rows)) j m ≢ given-polynomial (filled g other) j m
-    apart e = let a = h .lengths j low .rest m (omega arith) short in let b = getD-set-same (g .rows) place 1 0 fits in let z : ⊥ = omega (arith, e) in z
+    apart e = let a = h .rows .lengths j low .rest m (omega arith) short in let b = getD-set-same (g .rows) place 1 0 fits in let z : ⊥ = omega (arith, e) in z
 
 pub filled-opens : (g : Given) (rows : List ℕ) → openVerdict g (needed g) ≡ Pass → Fills g rows → openVerdict (filled g rows) (needed (filled g rows)) ≡ Pass
 filled-opens g rows pass F =
     let a = open-passed g (needed g) pass in
-    split-pass (filled g rows) (needed (filled g rows)) (list-passes (filled g rows) (filled-list g (a .list) rows F)) (a .found) (powers-same g (a .list) rows F ∙ a .found-is) (omega arith)
+    let f = filled g rows in
+    open-rows-split f (needed f)
+    ∙ split-some (polynomialChecks f ++ listChecks f) (list-passes f (filled-list g (a .list) rows F)) f (needed f) (a .found) (powers-same g (a .list) rows F ∙ a .found-is)
+    ∙ room-pass (needed f) (needed f) (omega arith)
 
 pub filled-apart : (g : Given) → openVerdict g (needed g) ≡ Pass → given-reach g < g .N → ApartFilled g
 filled-apart g pass short =

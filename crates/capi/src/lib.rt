@@ -21,6 +21,7 @@ ghost use Rattle.sheet.specs.Sheet.{Given, givenOf};
 ghost use Rattle.sheet.specs.Test.{soundTest};
 ghost use Rattle.sheet.specs.Reading.{timesChecks, timesSize, timesWords, shiftedChecks, shiftedSize, shiftedWords};
 ghost use Rattle.open.specs.Open.{openVerdict, needed, OpenDone};
+ghost use Rattle.open.specs.Find.{withRoots, findVerdict};
 ghost use Rattle.extend.specs.Extend.{extendVerdict, ExtendDone};
 ghost use Rattle.calls.specs.Replay.{callsTo, replayVerdict, ReplayLeaves};
 ghost use Rattle.listing.specs.Listing.{Listed};
@@ -221,6 +222,27 @@ pub extern "C" fn bk_sheet_open(
         ⌝ }
 {
     pack(open::open(p, d, n, f, lengths, roots, out))
+}
+
+#[no_mangle]
+pub extern "C" fn bk_sheet_find(
+    p: u32,
+    d: u32,
+    n: u32,
+    f: &[u32],
+    lengths: &[u32],
+    out: &mut [u32],
+) -> u64
+    ensures answer { λ r. ⌜
+        (let g : Given = givenOf p d n (now (f .entry)) (now (lengths .entry)) [] in
+        r ≡ packed (result (findVerdict g (length (now (out .entry)))) (needed (withRoots g))))
+        ⌝ }
+    ensures words { λ _. ⌜
+        (let g : Given = givenOf p d n (now (f .entry)) (now (lengths .entry)) [] in
+        Leaves (findVerdict g (length (now (out .entry)))) (OpenDone (withRoots g) (now (out .entry)) (now (out .exit)) (needed (withRoots g))) (now (out .entry)) (now (out .exit)))
+        ⌝ }
+{
+    pack(open::find(p, d, n, f, lengths, out))
 }
 
 #[no_mangle]

@@ -27,6 +27,9 @@ pub record Sinking (f : ℕ → ℕ) (s e : List ℕ) (j : ℕ) : Type 0 where
   pub kept : (k : ℕ) → k < j → word e k ≡ word s k
   pub done : (k : ℕ) → j ≤ k → k < length s → word e k ≡ f k
 
+pub sinking-none : (f : ℕ → ℕ) (s : List ℕ) → Sinking f s s (length s)
+sinking-none f s = record { long = refl; kept = λ k l. refl; done = λ k l g. absurd (let z : ⊥ = omega arith in z) }
+
 pub sinking-store : (f : ℕ → ℕ) (s e : List ℕ) (j v : ℕ) → Sinking f s e j → 0 < j → j ≤ length s → v ≡ f (j - 1) → Sinking f s (set e (j - 1) v) (j - 1)
 sinking-store f s e j v w pos h q = record {
   long = length-set e (j - 1) v ∙ w .long;
@@ -240,9 +243,6 @@ digit-rest h q = from-is (set h 0 q) 1 ∙ drop-set-lt 1 h 0 q (omega arith)
 
 pub digit-rest-length : (p c : ℕ) (e h : List ℕ) (q : ℕ) → h ≡ hornerWords p c e → length (from (set h 0 q) 1) ≡ length e - 1
 digit-rest-length p c e h q x = ap length (digit-rest h q ∙ ap (drop 1) x) ∙ length-rest p c e
-
-pub digit-rest-below : (p c : ℕ) (e h : List ℕ) (q : ℕ) → 1 ≤ p → h ≡ hornerWords p c e → AllBelow p (from (set h 0 q) 1)
-digit-rest-below p c e h q pos x = rw (digit-rest h q, x) (drop-below p 1 (hornerWords p c e) (horner-below p pos c e))
 
 module _ (p c w : ℕ) (a : List ℕ) where
   -- the digit's words, and what is left after it

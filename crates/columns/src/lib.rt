@@ -29,8 +29,8 @@ pub fn horner(p: u32, c: u32, e: &mut [u32])
 }
 
 // e − q · a, in place.
-fn less_multiple(p: u32, q: u32, a: &[u32], e: &mut [u32])
-    requires { ⌜ (1 ≤ p) × (p < modulusBound) × (q < p) × (length (now a) ≤ length (now e)) × AllBelow p (now a) × AllBelow p (now e) ⌝ }
+pub fn less_multiple(p: u32, q: u32, a: &[u32], e: &mut [u32])
+    requires { ⌜ (1 ≤ p) × (p < modulusBound) × (length (now a) ≤ length (now e)) ⌝ }
     ensures { λ _. ⌜ now (e .exit) ≡ lessMultiple p q (now (a .entry)) (now (e .entry)) ⌝ }
 {
     let mut j = 0;

@@ -1,11 +1,13 @@
 -- From the calls that listing makes to the text that the job comes to.
---   list-refused, list-opens   the verdict of a job: its own checks', or else open's
---   list-room                  a sheet of `sheetRoom` words is room enough for every job
---   opened-holds, extended-holds   an accepted open, and then extend to N, leave a sheet that holds what the job gives
+--   rooted-either              what holds of find and of open holds of the way that a job is opened
+--   rooted-ready, rooted-sizes, rooted-none, rooted-some   so what it leaves, and which way it is
+--   list-refused, list-opens   the verdict of a job: its own checks', or else that of opening its sheet
+--   list-room, rooted-room     a sheet of `sheetRoom` words is room enough for every job
+--   opened-holds, extended-holds   opening, and then extend to N, leave a sheet that holds what the job gives
 --   text-refused, text-listed  the text under a verdict
---   wrote-refused, wrote-listed, given-listable   after open: its refusal, or else extend to N
+--   wrote-refused, wrote-listed, given-listable   after opening: the refusal, or else extend to N
 --   made-fits, made-first      the first words of an array, where a function made them; loaded-first, loaded-long where they are a job's
---   wrote-early, wrote-job     the text of a job, by its own checks or by open's
+--   wrote-early, wrote-job     the text of a job, by its own checks or by those of opening
 --   listed-fits, listed-never  an accepted listing is within its room; `textRoom` bytes are always enough
 --   listing-same               two sheets that hold it have one listing
 --   one-listing, listed-only   each job comes to exactly one text; so listing it has one outcome only
@@ -16,14 +18,14 @@ use native.Mathlib.Nat.{mul-le-mul, add-mul}
 use native.Mathlib.Omega.{arith}
 use mathlib.Core.Path.{_≡_, refl, sym, ap, ap₂, subst, _∙_}
 use mathlib.Core.Bool.{Bool, true, false}
-use mathlib.Core.List.{List, [], _++_}
-use lib.Dec.{ltb}
+use mathlib.Core.List.{List, [], _∷_, _++_}
+use lib.Dec.{ltb, eqb}
 use lib.ListN.{length, take, drop, length-append}
 use lib.Seq.{getD-take, length-take-le, take-at}
-use borrow.Author.Tests.{le-ltb, lt-ltb, ltb-false}
+use borrow.Author.Tests.{le-ltb, lt-ltb, ltb-false, ne-eqb}
 use Rattle.algebra.specs.Sums.{sumTo}
 use Rattle.algebra.proofs.SumsLaws.{sumTo-ext}
-use Rattle.numbers.specs.Words.{word, tabulate, over}
+use Rattle.numbers.specs.Words.{word, choose, tabulate, over}
 use Rattle.numbers.specs.Refusals.{check, judge, refusal, Outcome, accepted, refused, result, written, Leaves}
 use Rattle.numbers.specs.declared.refusal.Refusal.{Refusal}
 use Rattle.numbers.specs.declared.refusal.Verdict.{Verdict}
@@ -33,7 +35,7 @@ use Rattle.numbers.proofs.OneLaws.{one-same}
 use Rattle.numbers.proofs.RefusalsLaws.{after-pass, after-refuse, pass-parts, take-check, skip-check, none-judged, answer-refused, unlike, accepted-pass}
 use Rattle.numbers.proofs.WordsLaws.{tabulate-ext, length-tabulate}
 use Rattle.layout.specs.Layout.{modulus, degree, width, terms, count, reach, root, power, factor, rootsFrom, factorsFrom, end}
-use Rattle.sheet.specs.Sheet.{Sound, Given, wholeOf, given-reach, Holds}
+use Rattle.sheet.specs.Sheet.{Sound, Given, givenOf, wholeOf, given-reach, Holds}
 use Rattle.layout.proofs.PlacesLaws.{upto-power, count-sum}
 use Rattle.layout.proofs.RegionsLaws.{in-rows}
 use Rattle.sheet.proofs.ReadingLaws.{sound-placed}
@@ -43,8 +45,11 @@ use Rattle.sheet.proofs.HoldsLaws.{whole-reach, holds-reach}
 use Rattle.sheet.proofs.UniqueLaws.{holds-unique}
 use Rattle.extend.specs.Extend.{extendVerdict, ExtendDone, Extended}
 use Rattle.extend.proofs.ExtendingLaws.{extend-holds}
-use Rattle.open.specs.Open.{needed, openChecks, openVerdict, OpenDone, Opened}
-use Rattle.open.proofs.OpeningLaws.{open-ready, sheet-exists}
+use Rattle.open.specs.Open.{needed, polynomialChecks, topChecks, splitChecks, openChecks, openVerdict, OpenDone, OpenedBy, Opened}
+use Rattle.open.specs.Find.{withRoots, findChecks, findVerdict, Found}
+use Rattle.open.proofs.OpenChecksLaws.{rows-pass}
+use Rattle.open.proofs.OpeningLaws.{GivenReady, open-ready, sheet-exists}
+use Rattle.open.proofs.FindLaws.{find-split, find-ready, roots-most}
 use Rattle.job.specs.Limits.{mostDegree, mostWidth, headFields}
 use Rattle.job.specs.Job.{place, field, fields, jobModulus, jobDegree, jobWidth, jobCount, jobChecks}
 use Rattle.job.specs.declared.Form.{Form}
@@ -56,8 +61,8 @@ use Rattle.text.specs.internal.Rooms.{sheetRoom, refusalRoom}
 use Rattle.text.specs.Text.{joinTo, rowLine, rowLines, rootLine, headLine, factorText, listingText, refusedText}
 use Rattle.text.specs.internal.Putting.{Listable, Puts}
 use Rattle.text.proofs.TextLaws.{puts-as}
-use Rattle.listing.specs.Listing.{jobGiven, listVerdict, TextOf, IsListing, roomVerdict, Listed}
-use Rattle.listing.specs.internal.Writing.{Wrote, WroteGiven}
+use Rattle.listing.specs.Listing.{jobGiven, rooted, rootedChecks, listVerdict, TextOf, IsListing, roomVerdict, Listed}
+use Rattle.listing.specs.internal.Writing.{rootedVerdict, OpenedJob, Wrote, WroteGiven}
 
 -- every sound sheet within a job's limits has its room
 pub listable : (s : List ℕ) → Sound s → degree s ≤ mostDegree → width s ≤ mostWidth → Listable s
@@ -69,35 +74,84 @@ listable s sound d n = record {
   count-high = omega (arith, count-sum (count s) (power s) (sound .factors .powers), sound .factors .degree);
 }
 
--- the verdict of a job: its own checks', or else open's
+-- roots listed, or found: what holds of both ways to open holds of a job's
+rooted-either : (g : Given) (P : Given → (ℕ → Verdict) → Type 0) → P (withRoots g) (findVerdict g) → P g (openVerdict g) → P (rooted g) (rootedVerdict g)
+unfolding rootedVerdict findVerdict openVerdict
+rooted-either g P found listed = go (eqb (length (g .roots)) 0)
+  where
+    go : (b : Bool) → P (choose b (withRoots g) g) (λ room. judge (choose b (findChecks g room) (openChecks g room)))
+    go true = found
+    go false = listed
+
+pub rooted-ready : (g : Given) (room : ℕ) → rootedVerdict g room ≡ Pass → GivenReady (rooted g) × (needed (rooted g) ≤ room)
+rooted-ready g = rooted-either g (λ x v. (room : ℕ) → v room ≡ Pass → GivenReady x × (needed x ≤ room)) (find-ready g) (open-ready g)
+
+pub rooted-sizes : (g : Given) → (rooted g .D ≡ g .D) × (rooted g .N ≡ g .N) × (given-reach (rooted g) ≡ given-reach g)
+rooted-sizes g = rooted-either g (λ x v. (x .D ≡ g .D) × (x .N ≡ g .N) × (given-reach x ≡ given-reach g)) (refl, refl, refl) (refl, refl, refl)
+
+empty-found : (p D N : ℕ) (rows roots old : List ℕ) (a : Outcome ℕ) (new : List ℕ) → length roots < 1 → Found (wholeOf p D N rows []) old a new → OpenedJob (wholeOf p D N rows roots) old a new
+unfolding rootedVerdict findVerdict
+empty-found p D N rows [] old a new l o = o
+empty-found p D N rows (c ∷ roots) old a new l o = absurd (let z : ⊥ = omega arith in z)
+
+listed-opened : (g : Given) (old : List ℕ) (a : Outcome ℕ) (new : List ℕ) → 1 ≤ length (g .roots) → Opened g old a new → OpenedJob g old a new
+unfolding rootedVerdict openVerdict
+listed-opened g old a new l o = rw (ne-eqb (length (g .roots)) 0 (λ z. let y : ⊥ = omega arith in y)) o
+
+module _ (p D N : ℕ) (rows lengths roots old : List ℕ) (a : Outcome ℕ) (new : List ℕ) (whole : lengths ≡ tabulate D (λ _. N)) where
+  pub rooted-none : length roots < 1 → Found (givenOf p D N rows lengths []) old a new → OpenedJob (wholeOf p D N rows roots) old a new
+  rooted-none l o = empty-found p D N rows roots old a new l (subst (λ x. Found (givenOf p D N rows x []) old a new) whole o)
+
+  pub rooted-some : 1 ≤ length roots → Opened (givenOf p D N rows lengths roots) old a new → OpenedJob (wholeOf p D N rows roots) old a new
+  rooted-some l o = listed-opened (wholeOf p D N rows roots) old a new l (subst (λ x. Opened (givenOf p D N rows x roots) old a new) whole o)
+
+-- the verdict of a job: its own checks', or else that of opening its sheet
 pub list-refused : (b : List ℕ) (r : Refusal) → judge (jobChecks b) ≡ Refuse r → listVerdict b ≡ Refuse r
 unfolding listVerdict
-list-refused b r e = after-refuse (jobChecks b) (openChecks (jobGiven b) (needed (jobGiven b))) r e
+list-refused b r e = after-refuse (jobChecks b) (rootedChecks (jobGiven b) (needed (rooted (jobGiven b)))) r e
 
-pub list-opens : (b : List ℕ) → judge (jobChecks b) ≡ Pass → listVerdict b ≡ openVerdict (jobGiven b) (needed (jobGiven b))
-unfolding listVerdict openVerdict
-list-opens b e = after-pass (jobChecks b) (openChecks (jobGiven b) (needed (jobGiven b))) e
+pub list-opens : (b : List ℕ) → judge (jobChecks b) ≡ Pass → listVerdict b ≡ rootedVerdict (jobGiven b) (needed (rooted (jobGiven b)))
+unfolding listVerdict rootedVerdict
+list-opens b e = after-pass (jobChecks b) (rootedChecks (jobGiven b) (needed (rooted (jobGiven b)))) e
 
-pass-open : (b : List ℕ) → listVerdict b ≡ Pass → openVerdict (jobGiven b) (needed (jobGiven b)) ≡ Pass
-unfolding listVerdict openVerdict
-pass-open b e = pass-parts (jobChecks b) (openChecks (jobGiven b) (needed (jobGiven b))) e .1
+pass-open : (b : List ℕ) → listVerdict b ≡ Pass → rootedVerdict (jobGiven b) (needed (rooted (jobGiven b))) ≡ Pass
+unfolding listVerdict rootedVerdict
+pass-open b e = pass-parts (jobChecks b) (rootedChecks (jobGiven b) (needed (rooted (jobGiven b)))) e .1
 
--- open's verdict is the same wherever there is room
-pub open-room : (g : Given) (room : ℕ) → needed g ≤ room → openVerdict g room ≡ openVerdict g (needed g)
+-- the verdict is the same wherever there is room
+open-room : (g : Given) (room : ℕ) → needed g ≤ room → openVerdict g room ≡ openVerdict g (needed g)
 unfolding openVerdict
 open-room g room h = rw (le-ltb room (needed g) h, le-ltb (needed g) (needed g) (omega arith))
 
+find-room : (g : Given) (room : ℕ) → needed (withRoots g) ≤ room → findVerdict g room ≡ findVerdict g (needed (withRoots g))
+unfolding findVerdict
+find-room g room h = rw (le-ltb room (needed (withRoots g)) h, le-ltb (needed (withRoots g)) (needed (withRoots g)) (omega arith))
+
 -- a sheet has room enough within a job's limits
-pub list-room : (g : Given) → g .D ≤ mostDegree → g .N ≤ mostWidth → length (g .roots) ≤ mostDegree → needed g ≤ sheetRoom
+list-room : (g : Given) → g .D ≤ mostDegree → g .N ≤ mostWidth → length (g .roots) ≤ mostDegree → needed g ≤ sheetRoom
 unfolding needed
 list-room g d n r =
     let a : 2 * g .D + 1 ≤ 25 = omega arith in
     let q : (2 * g .D + 1) * g .N ≤ 25 * mostWidth = mul-le-mul a n in
     omega arith
 
--- an accepted open leaves a sheet that holds what it was given
-pub opened-holds : (g : Given) (old new : List ℕ) (a : Outcome ℕ) → Opened g old a new → openVerdict g (length old) ≡ Pass → Holds g 1 new
-opened-holds g old new a o e = subst (λ (v : Verdict). Leaves v (OpenDone g old new (needed g)) old new) e (o .leaves) .holds
+-- rows that are refused are refused wherever they stand; of others there are no more roots than the degree
+find-same : (g : Given) (room : ℕ) → g .D ≤ mostDegree → g .N ≤ mostWidth → room ≡ sheetRoom → findVerdict g room ≡ findVerdict g (needed (withRoots g))
+find-same g room d n q = go (judge (polynomialChecks g ++ topChecks g)) refl
+  where
+    go : (v : Verdict) → judge (polynomialChecks g ++ topChecks g) ≡ v → findVerdict g room ≡ findVerdict g (needed (withRoots g))
+    go Pass e = find-room g room (let z = roots-most g (rows-pass g e) in omega (arith, list-room (withRoots g) d n (omega arith)))
+    go (Refuse r) e =
+        let G = withRoots g in
+        find-split g room ∙ after-refuse (polynomialChecks g ++ topChecks g) (splitChecks G room) r e
+        ∙ sym (find-split g (needed G) ∙ after-refuse (polynomialChecks g ++ topChecks g) (splitChecks G (needed G)) r e)
+
+rooted-room : (g : Given) (room : ℕ) → g .D ≤ mostDegree → g .N ≤ mostWidth → length (g .roots) ≤ mostDegree → room ≡ sheetRoom → rootedVerdict g room ≡ rootedVerdict g (needed (rooted g))
+rooted-room g room d n r q = rooted-either g (λ x v. v room ≡ v (needed x)) (find-same g room d n q) (open-room g room (omega (arith, list-room g d n r)))
+
+-- an accepted call that opens leaves a sheet that holds what it was given
+opened-holds : (v : Verdict) (g : Given) (old new : List ℕ) (a : Outcome ℕ) → OpenedBy v g old a new → v ≡ Pass → Holds g 1 new
+opened-holds v g old new a o e = subst (λ (v : Verdict). Leaves v (OpenDone g old new (needed g)) old new) e (o .leaves) .holds
 
 pub extended-holds : (g : Given) (old new : List ℕ) (a : Outcome ℕ) (w : ℕ) → Holds g 1 old → Extended old w a new → extendVerdict old w ≡ Pass → Holds g w new
 extended-holds g old new a w h x e =
@@ -181,9 +235,11 @@ pub text-listed : (v : Verdict) (g : Given) (s : List ℕ) → v ≡ Pass → Ho
 text-listed v g s e h = record { refused = λ q f. never v q f e; listed = λ f u k. listing-same g (g .N) s u h k }
 
 -- a job's rows are all known to N
-job-reach : (b : List ℕ) → given-reach (jobGiven b) ≡ jobGiven b .N
+job-reach : (b : List ℕ) → given-reach (rooted (jobGiven b)) ≡ rooted (jobGiven b) .N
 unfolding jobGiven
-job-reach b = whole-reach (jobModulus b) (jobDegree b) (jobWidth b) (jobGiven b .rows) (jobGiven b .roots)
+job-reach b =
+    let z = rooted-sizes (jobGiven b) in
+    z .2 ∙ whole-reach (jobModulus b) (jobDegree b) (jobWidth b) (jobGiven b .rows) (jobGiven b .roots) ∙ sym (z .1)
 
 -- each job comes to exactly one text
 pub one-listing : (job : List ℕ) → One (IsListing job)
@@ -191,11 +247,11 @@ one-listing job = go (listVerdict job) refl
   where
     go : (v : Verdict) → listVerdict job ≡ v → One (IsListing job)
     go Pass e =
-        let g = jobGiven job in
-        let ready = open-ready g (needed g) (pass-open job e) .0 in
+        let g = rooted (jobGiven job) in
+        let ready = rooted-ready (jobGiven job) (needed g) (pass-open job e) .0 in
         let one = sheet-exists g ready (g .N) (ready .width-low) (omega (arith, job-reach job)) in
         (listingText (one .words), record { is = text-listed (listVerdict job) g (one .words) e (one .holds); only = λ other x. x .listed e (one .words) (one .holds) })
-    go (Refuse r) e = (refusedText (r .number) (r .detail), record { is = text-refused (listVerdict job) (jobGiven job) r e; only = λ other x. x .refused r e })
+    go (Refuse r) e = (refusedText (r .number) (r .detail), record { is = text-refused (listVerdict job) (rooted (jobGiven job)) r e; only = λ other x. x .refused r e })
 
 -- so the call has one outcome only
 pub listed-only : (job old : List ℕ) (a a′ : Outcome ℕ) (new new′ : List ℕ) → Listed job old a new → Listed job old a′ new′ → (a ≡ a′) × (new ≡ new′)
@@ -213,7 +269,7 @@ listing-cut job text n h l x = go (judge (jobChecks job)) refl
     go Pass e = too-long-not job (omega arith) e
     go (Refuse r) e =
         let is : text ≡ refusedText (r .number) (r .detail) = x .refused r (list-refused (take n job) r (cut-same job n h l ∙ e)) in
-        subst (λ (t : List ℕ). IsListing job t) (sym is) (text-refused (listVerdict job) (jobGiven job) r (list-refused job r e))
+        subst (λ (t : List ℕ). IsListing job t) (sym is) (text-refused (listVerdict job) (rooted (jobGiven job)) r (list-refused job r e))
 
 -- handing a text over: no room, and room
 pub no-room : (text old : List ℕ) → length old < length text → roomVerdict text old ≡ Refuse (refusal 10 (length text))
@@ -233,13 +289,12 @@ pub handed-all : (text old : List ℕ) {n a : ℕ} {new : List ℕ} → length t
     → (_≡_ {A = Outcome ℕ} (accepted (length text)) (result (roomVerdict text old) (length text))) × (new ≡ written (roomVerdict text old) (over text old) old)
 handed-all text old h f = rw (has-room text old h) (refl, put-over f)
 
--- open's verdict on a job's words, in a sheet with room for every job, is the job's
-pub list-verdict : (b : List ℕ) (room : ℕ) → judge (jobChecks b) ≡ Pass → room ≡ sheetRoom → listVerdict b ≡ openVerdict (jobGiven b) room
+-- the verdict on a job's words, in a sheet with room for every job, is the job's
+pub list-verdict : (b : List ℕ) (room : ℕ) → judge (jobChecks b) ≡ Pass → room ≡ sheetRoom → listVerdict b ≡ rootedVerdict (jobGiven b) room
 unfolding jobGiven
 list-verdict b room e q =
     let l = job-pass b e in
-    let n = list-room (jobGiven b) (l .degree-high) (l .width-high) (omega (arith, l .count-high, length-tabulate (jobCount b) (λ i. field b (headFields + i)))) in
-    list-opens b e ∙ sym (open-room (jobGiven b) room (omega arith))
+    list-opens b e ∙ sym (rooted-room (jobGiven b) room (l .degree-high) (l .width-high) (omega (arith, l .count-high, length-tabulate (jobCount b) (λ i. field b (headFields + i)))) q)
 
 -- what open leaves can be extended to any number of terms from 1 to the least known length
 pub extend-passes : (g : Given) (s : List ℕ) (w : ℕ) → Holds g 1 s → 1 ≤ w → w ≤ given-reach g → extendVerdict s w ≡ Pass
@@ -247,34 +302,30 @@ unfolding extendVerdict judge
 extend-passes g s w h low high =
     simp (sound-test s .1 (h .sound), le-ltb w 1 low, le-ltb (reach s) w (omega (arith, holds-reach g 1 s h)), le-ltb w (terms s) (omega (arith, h .same-terms)))
 
--- after open: its refusal, or else extend to N
-module _ (g : Given) (whole : given-reach g ≡ g .N) (old mid : List ℕ) (a : Outcome ℕ) (room : length old ≡ sheetRoom) (o : Opened g old a mid) where
-  answered : a ≡ result (openVerdict g sheetRoom) (needed g)
-  answered = subst (λ (n : ℕ). a ≡ result (openVerdict g n) (needed g)) room (o .answers)
-
-  refused-text : (n d : ℕ) → a ≡ refused n d → TextOf (openVerdict g sheetRoom) g (refusedText n d)
-  refused-text n d is = go (openVerdict g sheetRoom) refl (sym is ∙ answered)
+-- after opening: the refusal, or else extend to N
+module _ (v : Verdict) (g : Given) (whole : given-reach g ≡ g .N) (ready : v ≡ Pass → GivenReady g) (old mid : List ℕ) (a : Outcome ℕ) (o : OpenedBy v g old a mid) where
+  refused-text : (n d : ℕ) → a ≡ refused n d → TextOf v g (refusedText n d)
+  refused-text n d is = go v refl (sym is ∙ o .answers)
     where
-      go : (v : Verdict) → openVerdict g sheetRoom ≡ v → _≡_ {A = Outcome ℕ} (refused n d) (result v (needed g)) → TextOf (openVerdict g sheetRoom) g (refusedText n d)
+      go : (w : Verdict) → v ≡ w → _≡_ {A = Outcome ℕ} (refused n d) (result w (needed g)) → TextOf v g (refusedText n d)
       go Pass q e = unlike (needed g) n d e
       go (Refuse r) q e =
           let m : r .number ≡ n = cc in
           let l : r .detail ≡ d = cc in
-          subst (λ (x : List ℕ). TextOf (openVerdict g sheetRoom) g x) (ap₂ refusedText m l) (text-refused (openVerdict g sheetRoom) g r q)
+          subst (λ (x : List ℕ). TextOf v g x) (ap₂ refusedText m l) (text-refused v g r q)
 
-  pub wrote-refused : (n d : ℕ) {at : ℕ} {out new : List ℕ} → a ≡ refused n d → Puts refusalRoom (refusedText n d) 0 out at new → Wrote (openVerdict g sheetRoom) g out at new
+  pub wrote-refused : (n d : ℕ) {at : ℕ} {out new : List ℕ} → a ≡ refused n d → Puts refusalRoom (refusedText n d) 0 out at new → Wrote v g out at new
   wrote-refused n d is f =
       record { text = refusedText n d; is = refused-text n d is; puts = puts-as textRoom (refusedText n d) f refl (omega arith) }
 
-  passed : (T : ℕ) → a ≡ accepted T → openVerdict g sheetRoom ≡ Pass
-  passed T is = accepted-pass (openVerdict g sheetRoom) (needed g) T (sym is ∙ answered) .0
+  passed : (T : ℕ) → a ≡ accepted T → v ≡ Pass
+  passed T is = accepted-pass v (needed g) T (sym is ∙ o .answers) .0
 
   holds-all : (T w : ℕ) (b : Outcome ℕ) (new : List ℕ) → a ≡ accepted T → w ≡ g .N → Extended mid w b new → Holds g (g .N) new
   holds-all T w b new is e x =
-      let v = passed T is in
-      let h = opened-holds g old mid a o (ap (openVerdict g) room ∙ v) in
-      let ready = open-ready g sheetRoom v .0 in
-      let y = extended-holds g mid new b w h x (extend-passes g mid w h (omega (arith, ready .width-low)) (omega arith)) in
+      let q = passed T is in
+      let h = opened-holds v g old mid a o q in
+      let y = extended-holds g mid new b w h x (extend-passes g mid w h (omega (arith, ready q .width-low)) (omega arith)) in
       subst (λ (n : ℕ). Holds g n new) e y
 
   pub given-listable : (T w : ℕ) (b : Outcome ℕ) (new : List ℕ) → a ≡ accepted T → w ≡ g .N → g .D ≤ mostDegree → g .N ≤ mostWidth → Extended mid w b new → Listable new
@@ -283,9 +334,9 @@ module _ (g : Given) (whole : given-reach g ≡ g .N) (old mid : List ℕ) (a : 
       listable new (h .sound) (omega (arith, h .same-degree)) (omega (arith, h .same-width))
 
   pub wrote-listed : (T w : ℕ) (b : Outcome ℕ) (new : List ℕ) {at : ℕ} {out text : List ℕ} → a ≡ accepted T → w ≡ g .N → Extended mid w b new
-      → Puts textRoom (listingText new) 0 out at text → Wrote (openVerdict g sheetRoom) g out at text
+      → Puts textRoom (listingText new) 0 out at text → Wrote v g out at text
   wrote-listed T w b new is e x f =
-      record { text = listingText new; is = text-listed (openVerdict g sheetRoom) g new (passed T is) (holds-all T w b new is e x); puts = f }
+      record { text = listingText new; is = text-listed v g new (passed T is) (holds-all T w b new is e x); puts = f }
 
 -- the first m words of an array, made by a function that was lent them
 module _ (m : ℕ) (f : ℕ → ℕ) (zeros new : List ℕ) (fits : m ≤ length zeros) (is : new ≡ tabulate (length (take m zeros)) f) where
@@ -325,23 +376,23 @@ module _ (b : List ℕ) (p D N : ℕ) (rows roots : List ℕ) (ep : p ≡ jobMod
       ap (λ (x : ℕ). wholeOf x D N rows roots) ep ∙ ap (λ (x : ℕ). wholeOf (jobModulus b) x N rows roots) ed ∙ ap (λ (x : ℕ). wholeOf (jobModulus b) (jobDegree b) x rows roots) en
       ∙ ap (λ (x : List ℕ). wholeOf (jobModulus b) (jobDegree b) (jobWidth b) x roots) erows ∙ ap (λ (x : List ℕ). wholeOf (jobModulus b) (jobDegree b) (jobWidth b) A x) eroots
 
-  -- after a job's own checks, the text is that of open's verdict
-  pub wrote-job : {out new : List ℕ} {at : ℕ} → judge (jobChecks b) ≡ Pass → WroteGiven (wholeOf p D N rows roots) out at new → Wrote (listVerdict b) (jobGiven b) out at new
+  -- after a job's own checks, the text is that of the verdict on what it gives
+  pub wrote-job : {out new : List ℕ} {at : ℕ} → judge (jobChecks b) ≡ Pass → WroteGiven (wholeOf p D N rows roots) out at new → Wrote (listVerdict b) (rooted (jobGiven b)) out at new
   wrote-job {out} {new} {at} e w =
       let s = subst (λ (x : Given). WroteGiven x out at new) given-same w in
-      subst (λ (v : Verdict). Wrote v (jobGiven b) out at new) (sym (list-verdict b sheetRoom e refl)) s
+      subst (λ (v : Verdict). Wrote v (rooted (jobGiven b)) out at new) (sym (list-verdict b sheetRoom e refl)) s
 
 -- the text of a job that its own checks refuse
 pub wrote-early : (b : List ℕ) (r : Refusal) {out new : List ℕ} {at : ℕ} → judge (jobChecks b) ≡ Refuse r → Puts refusalRoom (refusedText (r .number) (r .detail)) 0 out at new
-    → Wrote (listVerdict b) (jobGiven b) out at new
+    → Wrote (listVerdict b) (rooted (jobGiven b)) out at new
 wrote-early b r e f = record {
   text = refusedText (r .number) (r .detail);
-  is = text-refused (listVerdict b) (jobGiven b) r (list-refused b r e);
+  is = text-refused (listVerdict b) (rooted (jobGiven b)) r (list-refused b r e);
   puts = puts-as textRoom (refusedText (r .number) (r .detail)) f refl (omega arith);
 }
 
 -- a text written is handed over as far as it goes
-module _ (job zeros bytes : List ℕ) (long : ℕ) (w : Wrote (listVerdict job) (jobGiven job) zeros long bytes) where
+module _ (job zeros bytes : List ℕ) (long : ℕ) (w : Wrote (listVerdict job) (rooted (jobGiven job)) zeros long bytes) where
   first-long : long ≡ length (w .text)
   first-long = w .puts .answers ∙ (let z : 0 + length (w .text) ≡ length (w .text) = omega arith in z)
 

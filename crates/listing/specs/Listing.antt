@@ -1,6 +1,8 @@
 -- What listing a job answers and leaves.
---   jobGiven b             what open is given of the job file b: its rows are all known to N
---   listVerdict b          all the checks of a job, in their order: its own, and then open's
+--   jobGiven b             what the job file b gives: its rows are all known to N
+--   rooted g               this, with all roots where none are listed
+--   rootedChecks g room    open's checks, or where no roots are listed find's
+--   listVerdict b          all the checks of a job, in their order: its own, and then these
 --   TextOf v g text        under the verdict v, the line of the refusal, or the listing of the sheet that holds what is given, with N terms
 --   IsListing job text     the text that the job comes to
 --   roomVerdict text old   refusal 10 where the text has no room
@@ -10,15 +12,16 @@
 use Prim.Native.Nat.{ℕ, _+_, _*_, _≤_}
 use mathlib.Core.Path.{_≡_}
 use mathlib.Core.List.{List, [], _∷_, _++_}
-use lib.Dec.{ltb}
+use lib.Dec.{ltb, eqb}
 use lib.ListN.{length}
-use Rattle.numbers.specs.Words.{over}
-use Rattle.numbers.specs.Refusals.{check, judge, Outcome, result, written}
+use Rattle.numbers.specs.Words.{choose, over}
+use Rattle.numbers.specs.Refusals.{Check, check, judge, Outcome, result, written}
 use Rattle.numbers.specs.declared.refusal.Refusal.{Refusal}
 use Rattle.numbers.specs.declared.refusal.Verdict.{Verdict}
 use Rattle.numbers.specs.declared.refusal.Verdict.the-variants.{Pass, Refuse}
 use Rattle.sheet.specs.Sheet.{Given, wholeOf, Holds}
 use Rattle.open.specs.Open.{needed, openChecks}
+use Rattle.open.specs.Find.{withRoots, findChecks}
 use Rattle.job.specs.Limits.{headFields}
 use Rattle.job.specs.Job.{fields, jobModulus, jobDegree, jobWidth, jobCount, jobChecks}
 use Rattle.text.specs.Limits.{textRoom}
@@ -29,16 +32,22 @@ jobGiven b = wholeOf (jobModulus b) (jobDegree b) (jobWidth b)
     (fields b (headFields + jobCount b) ((jobDegree b + 1) * jobWidth b))
     (fields b headFields (jobCount b))
 
--- open has room enough here, so that its last row, 10, is never given
+abbrev pub rooted : Given → Given
+rooted g = choose (eqb (length (g .roots)) 0) (withRoots g) g
+
+abbrev pub rootedChecks : Given → ℕ → List Check
+rootedChecks g room = choose (eqb (length (g .roots)) 0) (findChecks g room) (openChecks g room)
+
+-- there is room enough here, so that the last row, 10, is never given
 unfoldable pub listVerdict : List ℕ → Verdict
-listVerdict b = judge (jobChecks b ++ openChecks (jobGiven b) (needed (jobGiven b)))
+listVerdict b = judge (jobChecks b ++ rootedChecks (jobGiven b) (needed (rooted (jobGiven b))))
 
 pub record TextOf (v : Verdict) (g : Given) (text : List ℕ) : Type 0 where
   pub refused : (r : Refusal) → v ≡ Refuse r → text ≡ refusedText (r .number) (r .detail)
   pub listed : v ≡ Pass → (s : List ℕ) → Holds g (g .N) s → text ≡ listingText s
 
 abbrev pub IsListing : (job text : List ℕ) → Type 0
-IsListing job text = TextOf (listVerdict job) (jobGiven job) text
+IsListing job text = TextOf (listVerdict job) (rooted (jobGiven job)) text
 
 abbrev pub roomVerdict : (text old : List ℕ) → Verdict
 roomVerdict text old = judge (check 10 (ltb (length old) (length text)) (length text) ∷ [])

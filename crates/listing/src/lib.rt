@@ -15,27 +15,29 @@ ghost use Rattle.numbers.specs.Words.{over};
 ghost use Rattle.numbers.specs.Refusals.{judge, outcome, result, written};
 ghost use Rattle.numbers.specs.declared.refusal.Verdict.the-variants.{Pass};
 ghost use Rattle.sheet.specs.Sheet.{wholeOf};
-ghost use Rattle.open.specs.Open.{Opened};
 ghost use Rattle.job.specs.Limits.{mostDegree, mostWidth};
 ghost use Rattle.job.specs.Job.{jobChecks};
 ghost use Rattle.text.specs.Limits.{textRoom};
-ghost use Rattle.listing.specs.internal.Writing.{Wrote, WroteGiven};
-ghost use Rattle.listing.specs.Listing.{jobGiven, listVerdict, roomVerdict, Listed};
+ghost use Rattle.listing.specs.internal.Writing.{OpenedJob, Wrote, WroteGiven};
+ghost use Rattle.listing.specs.Listing.{jobGiven, rooted, listVerdict, roomVerdict, Listed};
 
 pub mod limits; // how large the sheet and the text of a job are
 
-// The sheet of a job, whose rows are all known to N.
+// The sheet of a job, whose rows are all known to N; roots that are not listed are found.
 fn open_known(p: u32, d: u32, n: u32, rows: &[u32], roots: &[u32], sheet: &mut [u32]) -> Answer
     requires { ⌜ d ≤ mostDegree ⌝ }
-    ensures { λ r. ⌜ Opened (wholeOf p d n (now (rows .entry)) (now (roots .entry))) (now (sheet .entry)) (outcome r) (now (sheet .exit)) ⌝ }
+    ensures { λ r. ⌜ OpenedJob (wholeOf p d n (now (rows .entry)) (now (roots .entry))) (now (sheet .entry)) (outcome r) (now (sheet .exit)) ⌝ }
 {
     let size = d as usize;
     let mut lengths = [0u32; ROOTS_ROOM];
     repeat(n, &mut lengths[..size]);
+    if roots.len() < 1 {
+        return open::find(p, d, n, rows, &lengths[..size], sheet);
+    }
     open::open(p, d, n, rows, &lengths[..size], roots, sheet)
 }
 
-// The text of what open is given.
+// The text of what is given.
 fn write_given(p: u32, d: u32, n: u32, rows: &[u32], roots: &[u32], out: &mut [u8]) -> usize
     requires { ⌜ (d ≤ mostDegree) × (n ≤ mostWidth) × (textRoom ≤ length (now out)) ⌝ }
     ensures { λ r. ⌜ WroteGiven (wholeOf p d n (now (rows .entry)) (now (roots .entry))) (now (out .entry)) r (now (out .exit)) ⌝ }
@@ -51,7 +53,7 @@ fn write_given(p: u32, d: u32, n: u32, rows: &[u32], roots: &[u32], out: &mut [u
 // The text of a job that has passed its own checks.
 fn write_checked(job: &[u8], out: &mut [u8]) -> usize
     requires { ⌜ (judge (jobChecks (now job)) ≡ Pass) × (textRoom ≤ length (now out)) ⌝ }
-    ensures { λ r. ⌜ Wrote (listVerdict (now (job .entry))) (jobGiven (now (job .entry))) (now (out .entry)) r (now (out .exit)) ⌝ }
+    ensures { λ r. ⌜ Wrote (listVerdict (now (job .entry))) (rooted (jobGiven (now (job .entry)))) (now (out .entry)) r (now (out .exit)) ⌝ }
 {
     let form = job::form_of(job);
     let d = job::field(job, form, 1);
@@ -69,7 +71,7 @@ fn write_checked(job: &[u8], out: &mut [u8]) -> usize
 // The text of a job.
 fn write_text(job: &[u8], out: &mut [u8]) -> usize
     requires { ⌜ textRoom ≤ length (now out) ⌝ }
-    ensures { λ r. ⌜ Wrote (listVerdict (now (job .entry))) (jobGiven (now (job .entry))) (now (out .entry)) r (now (out .exit)) ⌝ }
+    ensures { λ r. ⌜ Wrote (listVerdict (now (job .entry))) (rooted (jobGiven (now (job .entry)))) (now (out .entry)) r (now (out .exit)) ⌝ }
 {
     if let Verdict::Refuse(r) = job::check_job(job) {
         return text::put_refusal(r.number, r.detail, out);

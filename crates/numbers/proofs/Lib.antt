@@ -1,4 +1,5 @@
 pub mod WordsLaws
+pub mod ListedLaws
 pub mod DivisorLaws
 pub mod PrimesLaws
 pub mod RefusalsLaws

@@ -7,7 +7,7 @@ use mathlib.Core.Bool.{Bool, true, false}
 use mathlib.Core.Logic.{⊎-elim, _⊎_, inl, inr}
 use mathlib.Core.List.{List, [], _∷_}
 use Prim.Native.Nat.{ℕ, zero, suc, _+_, _-_, _*_, _%_, _≤_, _<_}
-use native.Mathlib.Nat.{eq-zero-or-pos, le-of-suc-le-suc, le-refl}
+use native.Mathlib.Nat.{eq-zero-or-pos, le-of-suc-le-suc}
 use native.Mathlib.Omega.{arith}
 use native.Mathlib.Numerals.{add-one}
 use borrow.Author.Tests.{eqb-true, eqb-false, ltb-true, ltb-false, lt-ltb, le-ltb, eq-eqb, ne-eqb}
@@ -15,29 +15,15 @@ use lib.Dec.{eqb, ltb}
 use lib.ListN.{length, drop}
 use lib.Seq.{drop-cons, drop-length}
 use Rattle.algebra.specs.Prime.{Prime}
-use Rattle.numbers.specs.Words.{word, choose, outside}
+use Rattle.numbers.specs.Words.{word, choose, outside, allWhere}
 use Rattle.numbers.specs.Divisor.{leastDivisor}
 use Rattle.numbers.specs.internal.Limits.{modulusBound, tableBound}
-use Rattle.numbers.specs.internal.Primes.{keep, allWhere, isPrime, primesBetween, firstAmong, inTable}
+use Rattle.numbers.specs.internal.Primes.{isPrime, primesBetween, firstAmong, inTable}
 use Rattle.numbers.proofs.WordsLaws.{lt-or-ge, true-false, first-range}
 use Rattle.numbers.proofs.TestsLaws.{both-true}
+use Rattle.numbers.proofs.ListedLaws.{where-step, where-ext}
 use Rattle.numbers.proofs.RefusalsLaws.{inside}
 use Rattle.numbers.proofs.DivisorLaws.{None, none-two, none-more, composite-none, divisor-le, trialDivisor, trial-none, trial-divides, least-is, least-none, least-prime, prime-least, trial-prime}
-
--- Lists of the numbers that pass a test: a list begins with d or doesn't, as d passes or not.
-where-step : (f : ℕ → Bool) (d n : ℕ) (Q : List ℕ → Type 0) → (f d ≡ true → Q (d ∷ allWhere f (suc d) n)) → (f d ≡ false → Q (allWhere f (suc d) n))
-    → Q (allWhere f d (suc n))
-unfolding allWhere
-where-step f d n Q passes fails = at (f d) refl
-  where
-    at : (b : Bool) → f d ≡ b → Q (keep b d (allWhere f (suc d) n))
-    at true e = passes e
-    at false e = fails e
-
-where-ext : (f g : ℕ → Bool) (d n : ℕ) → ((k : ℕ) → d ≤ k → k < d + n → f k ≡ g k) → allWhere f d n ≡ allWhere g d n
-unfolding allWhere
-where-ext f g d zero h = refl
-where-ext f g d (suc n) h = rw (h d (le-refl d) (omega arith), where-ext f g (suc d) n (λ k lo hi. h k (omega arith) (omega arith)))
 
 -- The first divisor below 64, or the number itself: for a number below 64 times 64 that is the least divisor.
 abbrev byTrial : ℕ → ℕ

@@ -8,10 +8,10 @@ use mathlib.Core.Logic.{_↔_, ⊎-elim}
 use mathlib.Core.Bool.{Bool, true, false}
 use mathlib.Core.List.{List, [], _∷_}
 use lib.Dec.{eqb, leb, ltb}
-use lib.ListN.{getD}
-use borrow.Author.Tests.{eq-eqb, eqb-true, eqb-false, leb-true, leb-false, lt-ltb, ltb-true}
-use Rattle.numbers.specs.Words.{choose, allTo, all}
-use Rattle.numbers.specs.internal.Facts.{Decides}
+use lib.ListN.{length, getD}
+use borrow.Author.Tests.{eq-eqb, eqb-true, eqb-false, leb-true, leb-false, lt-ltb, ltb-true, le-ltb}
+use Rattle.numbers.specs.Words.{word, choose, allTo, all, rising}
+use Rattle.numbers.specs.internal.Facts.{Rising, Decides}
 use Rattle.numbers.proofs.WordsLaws.{true-false}
 
 -- where a test is true, and where it is false
@@ -106,3 +106,18 @@ decides-le m n into out = record { yes = λ e. into (leb-true m n e); no = λ e 
 
 pub decides-eq : {A : Type 0} (m n : ℕ) → (m ≡ n → A) → (A → m ≡ n) → Decides (eqb m n) A
 decides-eq m n into out = record { yes = λ e. into (eqb-true m n e); no = λ e a. eqb-false m n e (out a) }
+
+-- words that rise
+pub rising-fails : (s : List ℕ) (i : ℕ) → 1 ≤ i → i < length s → word s i ≤ word s (i - 1) → false ≡ rising s
+rising-fails s zero l g h = absurd (let z : ⊥ = omega arith in z)
+rising-fails s (suc i) l g h =
+    sym (allTo-false (length s - 1) (λ i. ltb (word s i) (word s (suc i))) i (omega arith) (le-ltb (word s i) (word s (suc i)) (subst (λ n. word s (suc i) ≤ word s n) (let z : suc i - 1 ≡ i = omega arith in z) h)))
+
+pub rising-passes : (s : List ℕ) (i : ℕ) → length s ≤ i → ((k : ℕ) → suc k < i → word s k < word s (suc k)) → true ≡ rising s
+rising-passes s i l h = sym (at-allTo (length s - 1) (λ i. ltb (word s i) (word s (suc i))) (λ k g. lt-ltb (word s k) (word s (suc k)) (h k (omega arith))))
+
+pub rising-more : (s : List ℕ) (i : ℕ) → 1 ≤ i → ((k : ℕ) → suc k < i → word s k < word s (suc k)) → word s (i - 1) < word s i → (k : ℕ) → suc k < i + 1 → word s k < word s (suc k)
+rising-more s i low h last k l = ⊎-elim (λ (e : suc k ≡ i). subst (λ n. word s n < word s (suc k)) (let z : suc k - 1 ≡ k = omega arith in z) (subst (λ n. word s (n - 1) < word s n) (sym e) last)) (λ g. h k g) (eq-or-lt-of-le (let z : suc k ≤ i = omega arith in z))
+
+pub rising-are : (s : List ℕ) → rising s ≡ true → Rising s
+rising-are s e i l = ltb-true _ _ (allTo-at (length s - 1) (λ i. ltb (word s i) (word s (suc i))) e i (omega arith))

@@ -2,10 +2,13 @@
 --   word s i             word i of s
 --   choose b x y         x where the test b holds, else y
 --   firstWhere test d n  the first of d, d + 1, .., d + n − 1 that passes the test, or d + n
+--   keep b x s           x before s where the test b holds, else s
+--   allWhere test d n    all of d, d + 1, .., d + n − 1 that pass the test, rising
 --   firstNonzero n f     the first of 0, 1, .., n − 1 at which f is not 0, or n
 --   allTo n test         the test holds of 0, 1, .., n − 1
 --   all tests            all of these hold
 --   firstLarge p s       the position of the first word of s that is p or more, or the length of s
+--   rising s             each word of s is larger than the one before it
 --   outside low high n   n is below low or above high
 --   lowWord n            what 32 bits keep of n
 --   tabulate n f         the words f 0, f 1, .., f (n − 1)
@@ -14,7 +17,7 @@
 --   upTo k f t           f t, and 0 from k on
 --   least N n f          the least of N and f 0, f 1, .., f (n − 1)
 -- Assumes nothing.
-use Prim.Native.Nat.{ℕ, zero, suc, _%_, min}
+use Prim.Native.Nat.{ℕ, zero, suc, _-_, _%_, min}
 use mathlib.Core.Bool.{Bool, true, false, not, _||_}
 use mathlib.Core.List.{List, [], _∷_, _++_}
 use lib.Dec.{leb, ltb, eqb}
@@ -31,6 +34,14 @@ unfoldable pub firstWhere : (ℕ → Bool) → ℕ → ℕ → ℕ
 firstWhere test d zero = d
 firstWhere test d (suc n) = choose (test d) d (firstWhere test (suc d) n)
 
+abbrev pub keep : Bool → ℕ → List ℕ → List ℕ
+keep true x s = x ∷ s
+keep false x s = s
+
+unfoldable pub allWhere : (ℕ → Bool) → ℕ → ℕ → List ℕ
+allWhere test d zero = []
+allWhere test d (suc n) = keep (test d) d (allWhere test (suc d) n)
+
 unfoldable pub firstNonzero : ℕ → (ℕ → ℕ) → ℕ
 firstNonzero n f = firstWhere (λ i. not (eqb (f i) 0)) 0 n
 
@@ -45,6 +56,9 @@ all (b ∷ bs) = choose b (all bs) false
 unfoldable pub firstLarge : ℕ → List ℕ → ℕ
 firstLarge p [] = 0
 firstLarge p (x ∷ s) = choose (leb p x) 0 (suc (firstLarge p s))
+
+abbrev pub rising : List ℕ → Bool
+rising s = allTo (length s - 1) (λ i. ltb (word s i) (word s (suc i)))
 
 abbrev pub outside : ℕ → ℕ → ℕ → Bool
 outside low high n = ltb n low || ltb high n

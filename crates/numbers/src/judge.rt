@@ -11,7 +11,7 @@ ghost use mathlib.Core.List.{_++_};
 ghost use Prim.Native.Nat.{_+_, _*_, _<_};
 ghost use lib.Dec.{ltb, eqb};
 ghost use lib.ListN.{length};
-ghost use Rattle.numbers.specs.Words.{firstLarge, outside};
+ghost use Rattle.numbers.specs.Words.{firstLarge, outside, rising};
 ghost use Rattle.numbers.specs.Limits.{mostRows};
 ghost use Rattle.numbers.specs.Refusals.{judge, modulusChecks, inputChecks, operationChecks};
 
@@ -51,6 +51,20 @@ pub fn first_large(p: u32, s: &[u32]) -> usize
         i += 1;
     }
     i
+}
+
+// Whether each word is larger than the one before it.
+pub fn rises(s: &[u32]) -> bool
+    ensures { λ r. ⌜ r ≡ rising (now (s .entry)) ⌝ }
+{
+    let mut i = 1;
+    while i < s.len() {
+        if s[i] <= s[i - 1] {
+            return false;
+        }
+        i += 1;
+    }
+    true
 }
 
 // The same in two slices, positions of the second counted on from the first.

@@ -4,7 +4,8 @@ pub mod OpenSplitLaws
 pub mod OpenTotalLaws
 pub mod OpeningLaws
 pub mod PowersFoundLaws
-pub mod OpenCheckedLaws
 pub mod WritingLaws
 pub mod SheetWritingLaws
 pub mod OpenDoneLaws
+pub mod FirstColumnLaws
+pub mod FindLaws

@@ -1,31 +1,33 @@
 -- The checks of open: their parts, and what each part that passes says.
 --   open-rows-split        the checks of open are the three parts, one after the other
 --   longCheck, wordsCheck, knownCheck, topTest, rootsCheck   refusals 5, 6, 21, 7 and 8, by name
---   unit-fails, unit-passes, rising-fails, rising-passes   what the two loops find
+--   unit-fails, unit-passes   what the loop over the top row finds
 --   large-rows, large-roots, large-none   refusal 6, by the first large words
 --   PolynomialPass, polynomial-pass, polynomial-passes   what checks 1 to 6 let pass, and that they do
 --   row-test               row D of the polynomial is the part of the rows that the loop looks at
 --   known-first            21 comes before 7 and 8
+--   RowsPass, rows-pass, rows-passes   what checks 1 to 7, and 21, let pass, and that they do
+--   other-roots            and so they do with other roots
 --   ListPass, list-pass, list-passes   what checks 1 to 8, and 21, let pass, and that they do
---   whole-list             and so they do with other rows, all of them known, if the top row is right and all are below p
+--   whole-rows, whole-list  and so they do with other rows, all of them known, if the top row is right and all are below p
 -- Assumes nothing.
 use Prim.Native.Nat.{ℕ, zero, suc, _+_, _-_, _*_, _≤_, _<_}
-use native.Mathlib.Nat.{eq-or-lt-of-le, mod-eq-of-lt}
+use native.Mathlib.Nat.{mod-eq-of-lt}
 use native.Mathlib.Omega.{arith}
 use mathlib.Core.Path.{_≡_, refl, sym, _∙_, ap, subst}
-use mathlib.Core.Logic.{_≢_, ⊎-elim}
+use mathlib.Core.Logic.{_≢_}
 use mathlib.Core.Bool.{Bool, true, false, not, _||_}
 use mathlib.Core.List.{List, [], _∷_, _++_}
-use borrow.Author.Tests.{lt-ltb, le-ltb, eq-eqb, ne-eqb, not-false, eqb-true, ltb-true}
-use lib.Dec.{ltb, eqb}
+use borrow.Author.Tests.{lt-ltb, le-ltb, eq-eqb, ne-eqb, not-false, eqb-true}
+use lib.Dec.{eqb}
 use lib.ListN.{length, take, drop, length-append}
 use lib.Seq.{getD-take, getD-drop}
-use Rattle.numbers.specs.Words.{word, allTo, all, firstLarge, outside, lowWord}
-use Rattle.numbers.specs.internal.Facts.{AllBelow}
+use Rattle.numbers.specs.Words.{word, allTo, all, firstLarge, outside, lowWord, rising}
+use Rattle.numbers.specs.internal.Facts.{AllBelow, Rising}
 use Rattle.numbers.specs.Refusals.{Check, check, judge, refusal, modulusChecks, unreduced, widthCheck}
 use Rattle.numbers.specs.declared.refusal.Verdict.the-variants.{Pass, Refuse}
 use Rattle.numbers.proofs.WordsLaws.{length-tabulate, word-tabulate, below-append, large-first, large-second, large-le}
-use Rattle.numbers.proofs.TestsLaws.{eqs, allTo-at, allTo-false, at-allTo, allTo-ext}
+use Rattle.numbers.proofs.TestsLaws.{eqs, allTo-false, allTo-ext, rising-passes, rising-are}
 use Rattle.numbers.proofs.RefusalsLaws.{Modulus, modulus-pass, modulus-fine, after-pass, pass-parts, pass-check, take-check, skip-check, none-judged, neither, reduced, below-reduced, inside, within}
 use Rattle.numbers.specs.Limits.{largestModulus, largestDegree, largestWidth}
 use Rattle.series.specs.Known.{KnownTo, knownTo, rowsKnown, unknownCheck}
@@ -35,7 +37,7 @@ use Rattle.rows.specs.Rows.{unit}
 use Rattle.columns.proofs.ColumnLaws.{append-below}
 use Rattle.layout.specs.Layout.{rowsAt}
 use Rattle.sheet.specs.Sheet.{Given, givenOf, wholeOf, given-polynomial}
-use Rattle.open.specs.Open.{openVerdict, rising, sizeChecks, polynomialChecks, listChecks, splitChecks}
+use Rattle.open.specs.Open.{openVerdict, sizeChecks, polynomialChecks, topChecks, listChecks, splitChecks}
 use Rattle.open.specs.internal.Opening.{isUnit}
 
 -- the rows that only open has: 5, 6, 21, 7 and 8
@@ -63,14 +65,6 @@ unit-fails s t l ne = sym (allTo-false (length s) (λ t. eqb (word s t) (unit t)
 
 pub unit-passes : (s : List ℕ) (n : ℕ) → length s ≤ n → ((k : ℕ) → k < n → word s k ≡ unit k) → true ≡ isUnit s
 unit-passes s n l h = sym (eqs (length s) (word s) unit .1 (λ k g. h k (omega arith)))
-
-pub rising-fails : (s : List ℕ) (i : ℕ) → 1 ≤ i → i < length s → word s i ≤ word s (i - 1) → false ≡ rising s
-rising-fails s zero l g h = absurd (let z : ⊥ = omega arith in z)
-rising-fails s (suc i) l g h =
-    sym (allTo-false (length s - 1) (λ i. ltb (word s i) (word s (suc i))) i (omega arith) (le-ltb (word s i) (word s (suc i)) (subst (λ n. word s (suc i) ≤ word s n) (let z : suc i - 1 ≡ i = omega arith in z) h)))
-
-pub rising-passes : (s : List ℕ) (i : ℕ) → length s ≤ i → ((k : ℕ) → suc k < i → word s k < word s (suc k)) → true ≡ rising s
-rising-passes s i l h = sym (at-allTo (length s - 1) (λ i. ltb (word s i) (word s (suc i))) (λ k g. lt-ltb (word s k) (word s (suc k)) (h k (omega arith))))
 
 -- refusal 6, by the first large word of the rows and by that of the roots
 module _ (g : Given) (at : ℕ) (is : at ≡ firstLarge (g .p) (g .rows)) where
@@ -161,70 +155,106 @@ pub one-first : (s : List ℕ) → word s 0 ≡ 1 → (k : ℕ) → k < 1 → wo
 one-first s e zero l = e
 one-first s e (suc k) l = absurd (let z : ⊥ = omega arith in z)
 
-pub rising-more : (s : List ℕ) (i : ℕ) → 1 ≤ i → ((k : ℕ) → suc k < i → word s k < word s (suc k)) → word s (i - 1) < word s i → (k : ℕ) → suc k < i + 1 → word s k < word s (suc k)
-rising-more s i low h last k l = ⊎-elim (λ (e : suc k ≡ i). subst (λ n. word s n < word s (suc k)) (let z : suc k - 1 ≡ k = omega arith in z) (subst (λ n. word s (n - 1) < word s n) (sym e) last)) (λ g. h k g) (eq-or-lt-of-le (let z : suc k ≤ i = omega arith in z))
-
 -- Y^1 with a top row of 0, a known length of 0 and no root
 known-first : judge (listChecks (givenOf 2 1 1 (0 ∷ 0 ∷ []) (0 ∷ []) [])) ≡ Refuse (refusal 21 0)
 unfolding judge rowsKnown knownTo allTo all
 known-first = refl
 
--- what checks 1 to 8, and 21, let pass
-pub record ListPass (g : Given) : Type 0 where
+-- what checks 1 to 7, and 21, let pass
+pub record RowsPass (g : Given) : Type 0 where
   pub polynomial : PolynomialPass g
   pub lengths : (j : ℕ) → j < g .D → KnownTo (g .N) (word (g .lengths) j) (given-polynomial g j)
   pub top : (t : ℕ) → t < g .N → given-polynomial g (g .D) t ≡ unit t
-  pub count-low : 1 ≤ length (g .roots)
-  pub count-high : length (g .roots) ≤ g .D
-  pub up : (i : ℕ) → suc i < length (g .roots) → word (g .roots) i < word (g .roots) (suc i)
 
-pub list-pass : (g : Given) → judge (polynomialChecks g ++ listChecks g) ≡ Pass → ListPass g
-list-pass g pass =
-    let m = pass-parts (polynomialChecks g) (listChecks g) pass in
+pub rows-pass : (g : Given) → judge (polynomialChecks g ++ topChecks g) ≡ Pass → RowsPass g
+rows-pass g pass =
+    let m = pass-parts (polynomialChecks g) (topChecks g) pass in
     let k = pass-check (knownCheck g) _ (m .1) in
-    let c₇ = pass-check (check 7 (not (topTest g)) 0) _ (k .1) in
-    let c₈ = pass-check (rootsCheck g) [] (c₇ .1) in
-    let n = neither (outside 1 (g .D) (length (g .roots))) (not (rising (g .roots))) (c₈ .0) in
-    let r = inside 1 (g .D) (length (g .roots)) (n .0) in
     record {
       polynomial = polynomial-pass g (m .0);
       lengths = rows-known-test (g .N) (g .D) (word (g .lengths)) (given-polynomial g) .0 (not-false _ (k .0));
-      top = eqs (g .N) _ _ .0 (not-false (topTest g) (c₇ .0));
-      count-low = r .0;
-      count-high = r .1;
-      up = λ i u. ltb-true _ _ (allTo-at (length (g .roots) - 1) (λ i. ltb (word (g .roots) i) (word (g .roots) (suc i))) (not-false (rising (g .roots)) (n .1)) i (omega arith));
+      top = eqs (g .N) _ _ .0 (not-false (topTest g) (pass-check (check 7 (not (topTest g)) 0) [] (k .1) .0));
     }
+
+pub rows-passes : (g : Given) → RowsPass g → judge (polynomialChecks g ++ topChecks g) ≡ Pass
+rows-passes g h =
+    after-pass (polynomialChecks g) (topChecks g) (polynomial-passes g (h .polynomial))
+    ∙ skip-check (knownCheck g) _ (ap not (rows-known-test (g .N) (g .D) (word (g .lengths)) (given-polynomial g) .1 (h .lengths)))
+    ∙ skip-check (check 7 (not (topTest g)) 0) [] (ap not (eqs (g .N) _ _ .1 (h .top)))
+    ∙ none-judged
+
+-- other roots do not matter to these, if they are below p
+pub other-roots : (g : Given) → RowsPass g → (roots : List ℕ) → AllBelow (g .p) roots → RowsPass (givenOf (g .p) (g .D) (g .N) (g .rows) (g .lengths) roots)
+other-roots g h roots low =
+    let s = h .polynomial in
+    record {
+      polynomial = record {
+        modulus = s .modulus;
+        small = s .small;
+        degree-low = s .degree-low;
+        degree-high = s .degree-high;
+        width-low = s .width-low;
+        width-high = s .width-high;
+        long = s .long;
+        lengths-long = s .lengths-long;
+        rows-below = s .rows-below;
+        roots-below = low;
+      };
+      lengths = h .lengths;
+      top = h .top;
+    }
+
+-- what checks 1 to 8, and 21, let pass
+pub record ListPass (g : Given) : Type 0 where
+  pub rows : RowsPass g
+  pub count-low : 1 ≤ length (g .roots)
+  pub count-high : length (g .roots) ≤ g .D
+  pub up : Rising (g .roots)
+
+-- refusal 8 comes after these
+pub list-split : (g : Given) → judge (polynomialChecks g ++ listChecks g) ≡ judge ((polynomialChecks g ++ topChecks g) ++ (rootsCheck g ∷ []))
+list-split g = refl
+
+pub list-pass : (g : Given) → judge (polynomialChecks g ++ listChecks g) ≡ Pass → ListPass g
+list-pass g pass =
+    let m = pass-parts (polynomialChecks g ++ topChecks g) (rootsCheck g ∷ []) (sym (list-split g) ∙ pass) in
+    let c₈ = pass-check (rootsCheck g) [] (m .1) in
+    let n = neither (outside 1 (g .D) (length (g .roots))) (not (rising (g .roots))) (c₈ .0) in
+    let r = inside 1 (g .D) (length (g .roots)) (n .0) in
+    record { rows = rows-pass g (m .0); count-low = r .0; count-high = r .1; up = rising-are (g .roots) (not-false (rising (g .roots)) (n .1)) }
 
 pub list-passes : (g : Given) → ListPass g → judge (polynomialChecks g ++ listChecks g) ≡ Pass
 list-passes g h =
-    after-pass (polynomialChecks g) (listChecks g) (polynomial-passes g (h .polynomial))
-    ∙ skip-check (knownCheck g) _ (ap not (rows-known-test (g .N) (g .D) (word (g .lengths)) (given-polynomial g) .1 (h .lengths)))
-    ∙ skip-check (check 7 (not (topTest g)) 0) _ (ap not (eqs (g .N) _ _ .1 (h .top)))
+    list-split g ∙ after-pass (polynomialChecks g ++ topChecks g) (rootsCheck g ∷ []) (rows-passes g (h .rows))
     ∙ skip-check (rootsCheck g) [] (rw (within 1 (g .D) (length (g .roots)) (h .count-low) (h .count-high)) (ap not (sym (rising-passes (g .roots) (length (g .roots)) (omega arith) (h .up)))))
     ∙ none-judged
 
-pub whole-list : (g : Given) → ListPass g → (rows : List ℕ) → length rows ≡ (g .D + 1) * g .N → AllBelow (g .p) rows → ((t : ℕ) → t < g .N → rowsAt rows 0 (g .N) (g .D) t ≡ unit t)
-    → ListPass (wholeOf (g .p) (g .D) (g .N) rows (g .roots))
-whole-list g h rows long below top = record {
-  polynomial = record {
-    modulus = h .polynomial .modulus;
-    small = h .polynomial .small;
-    degree-low = h .polynomial .degree-low;
-    degree-high = h .polynomial .degree-high;
-    width-low = h .polynomial .width-low;
-    width-high = h .polynomial .width-high;
-    long = long;
-    lengths-long = length-tabulate (g .D) (λ _. g .N);
-    rows-below = below;
-    roots-below = h .polynomial .roots-below;
-  };
-  lengths = λ j l. subst (λ n. KnownTo (g .N) n (rowsAt rows 0 (g .N) j)) (sym (word-tabulate (g .D) (λ _. g .N) j l))
-      (record { low = h .polynomial .width-low; high = omega arith; rest = λ t u v. absurd (let z : ⊥ = omega arith in z) });
-  top = top;
-  count-low = h .count-low;
-  count-high = h .count-high;
-  up = h .up;
-}
+-- other rows, all of them known
+module _ (g : Given) (rows : List ℕ) (long : length rows ≡ (g .D + 1) * g .N) (below : AllBelow (g .p) rows) (top : (t : ℕ) → t < g .N → rowsAt rows 0 (g .N) (g .D) t ≡ unit t) where
+  abbrev f : Given
+  f = wholeOf (g .p) (g .D) (g .N) rows (g .roots)
+
+  pub whole-rows : RowsPass g → RowsPass f
+  whole-rows h = record {
+    polynomial = record {
+      modulus = h .polynomial .modulus;
+      small = h .polynomial .small;
+      degree-low = h .polynomial .degree-low;
+      degree-high = h .polynomial .degree-high;
+      width-low = h .polynomial .width-low;
+      width-high = h .polynomial .width-high;
+      long = long;
+      lengths-long = length-tabulate (g .D) (λ _. g .N);
+      rows-below = below;
+      roots-below = h .polynomial .roots-below;
+    };
+    lengths = λ j l. subst (λ n. KnownTo (g .N) n (rowsAt rows 0 (g .N) j)) (sym (word-tabulate (g .D) (λ _. g .N) j l))
+        (record { low = h .polynomial .width-low; high = omega arith; rest = λ t u v. absurd (let z : ⊥ = omega arith in z) });
+    top = top;
+  }
+
+  pub whole-list : ListPass g → ListPass f
+  whole-list h = record { rows = whole-rows (h .rows); count-low = h .count-low; count-high = h .count-high; up = h .up }
 
 pub list-small : (g : Given) → ListPass g → (g .D ≤ largestDegree) × (g .N ≤ largestWidth) × (length (g .roots) ≤ largestDegree)
-list-small g h = let d = h .polynomial .degree-high in let r = h .count-high in (d, h .polynomial .width-high, omega arith)
+list-small g h = let d = h .rows .polynomial .degree-high in let r = h .count-high in (d, h .rows .polynomial .width-high, omega arith)

@@ -20,6 +20,7 @@ use Rattle.algebra.specs.Sums.{sumTo}
 use Rattle.algebra.proofs.SumsLaws.{sumTo-zero, sumTo-front}
 use Rattle.algebra.specs.Prime.{Prime}
 use Rattle.numbers.specs.Words.{word}
+use Rattle.numbers.specs.internal.Facts.{AllBelow, Rising}
 use Rattle.numbers.proofs.WordsLaws.{true-false}
 use Rattle.numbers.proofs.TestsLaws.{eqs}
 use Rattle.hensel.specs.Factors.{split}
@@ -115,12 +116,6 @@ find-none test (x ∷ ls) e = go (find-none test ls) (test x) refl e
     go rec true q e = absurd (let z : _≡_ {A = ℕ} 0 1 = cc in let y : ⊥ = omega arith in y)
     go rec false q e = (q, rec e)
 
-abbrev pub Rising : Given → Type 0
-Rising g = (i : ℕ) → suc i < length (g .roots) → word (g .roots) i < word (g .roots) (suc i)
-
-abbrev pub Reduced : Given → Type 0
-Reduced g = (i : ℕ) → i < length (g .roots) → word (g .roots) i < g .p
-
 -- powers of the listed roots that give f at X = 0
 abbrev pub GivenSplits : Given → (ℕ → ℕ) → Type 0
 GivenSplits g power = Splits (g .p) (g .D) (length (g .roots)) (given-polynomial g) (word (g .roots)) power
@@ -143,10 +138,10 @@ module _ (g : Given) where
       true-false (sym (splits-test l .1 (h .splits))
       ∙ choices-all (λ l. splitsTest g l ≡ false) (length (g .roots)) (g .D) (find-none (splitsTest g) (choices (length (g .roots)) (g .D)) e) l (record { count = n; low = h .powers; sum = h .degree }))
 
-  found-splits : (l : List ℕ) → Rising g → Reduced g → powersOf g ≡ some l → GivenSplits g (word l)
+  found-splits : (l : List ℕ) → Rising (g .roots) → AllBelow (g .p) (g .roots) → powersOf g ≡ some l → GivenSplits g (word l)
   found-splits l up low e = let z = found l e in record { rising = up; reduced = low; powers = z .0 .low; degree = z .0 .sum; splits = splits-test l .0 (z .1) }
 
-  module _ (prime : Prime (g .p)) (up : Rising g) (low : Reduced g) where
+  module _ (prime : Prime (g .p)) (up : Rising (g .roots)) (low : AllBelow (g .p) (g .roots)) where
     pub powers-are : (l : List ℕ) → (powersOf g ≡ some l) ↔ ((length l ≡ length (g .roots)) × GivenSplits g (word l))
     powers-are l = (λ e. (found-count l e, found-splits l up low e), λ h. go h (powersOf g) refl)
       where

@@ -1,32 +1,24 @@
--- Refusals 9 and 10 of open, after checks 1 to 8 have passed.
---   split-none, split-short, split-pass   the verdict, by what `powers_of` finds and by T
+-- Refusals 9 and 10, after checks that have passed.
+--   split-none, split-some   the verdict, by whether there are powers: refusal 9, or what room there is
+--   room-pass                there is room enough
 -- Assumes nothing.
-use Prim.Native.Nat.{ℕ, _≤_, _<_}
+use Prim.Native.Nat.{ℕ, _≤_}
 use mathlib.Core.Path.{_≡_, _∙_, ap}
 use mathlib.Core.Option.{none, some}
-use mathlib.Core.List.{List, [], _++_}
-use borrow.Author.Tests.{lt-ltb, le-ltb}
-use lib.Dec.{ltb}
-use Rattle.numbers.specs.Refusals.{check, judge, refusal}
+use mathlib.Core.List.{List, [], _∷_, _++_}
+use borrow.Author.Tests.{le-ltb}
+use Rattle.numbers.specs.Refusals.{Check, check, judge, refusal, roomCheck}
 use Rattle.numbers.specs.declared.refusal.Verdict.the-variants.{Pass, Refuse}
 use Rattle.numbers.proofs.RefusalsLaws.{after-pass, take-check, skip-check, none-judged}
 use Rattle.sheet.specs.Sheet.{Given}
-use Rattle.open.specs.Open.{powersOf, isNone, needed, openVerdict, polynomialChecks, listChecks, splitChecks}
-use Rattle.open.proofs.OpenChecksLaws.{open-rows-split}
+use Rattle.open.specs.Open.{powersOf, isNone, needed, splitChecks}
 
-module _ (g : Given) (room : ℕ) (pass : judge (polynomialChecks g ++ listChecks g) ≡ Pass) where
-  past : openVerdict g room ≡ judge (splitChecks g room)
-  past = open-rows-split g room ∙ after-pass (polynomialChecks g ++ listChecks g) (splitChecks g room) pass
+module _ (before : List Check) (pass : judge before ≡ Pass) (g : Given) (room : ℕ) where
+  pub split-none : powersOf g ≡ none → judge (before ++ splitChecks g room) ≡ Refuse (refusal 9 0)
+  split-none e = after-pass before (splitChecks g room) pass ∙ take-check (check 9 (isNone (powersOf g)) 0) _ (ap isNone e)
 
-  pub split-none : powersOf g ≡ none → openVerdict g room ≡ Refuse (refusal 9 0)
-  split-none e = past ∙ take-check (check 9 (isNone (powersOf g)) 0) _ (ap isNone e)
+  pub split-some : (l : List ℕ) → powersOf g ≡ some l → judge (before ++ splitChecks g room) ≡ judge (roomCheck room (needed g) ∷ [])
+  split-some l e = after-pass before (splitChecks g room) pass ∙ skip-check (check 9 (isNone (powersOf g)) 0) _ (ap isNone e)
 
-  module _ (l : List ℕ) (e : powersOf g ≡ some l) where
-    pub split-short : room < needed g → openVerdict g room ≡ Refuse (refusal 10 (needed g))
-    split-short h =
-        past ∙ skip-check (check 9 (isNone (powersOf g)) 0) _ (ap isNone e) ∙ take-check (check 10 (ltb room (needed g)) (needed g)) [] (lt-ltb room (needed g) h)
-
-    pub split-pass : needed g ≤ room → openVerdict g room ≡ Pass
-    split-pass h =
-        past ∙ skip-check (check 9 (isNone (powersOf g)) 0) _ (ap isNone e) ∙ skip-check (check 10 (ltb room (needed g)) (needed g)) [] (le-ltb room (needed g) h)
-        ∙ none-judged
+pub room-pass : (room T : ℕ) → T ≤ room → judge (roomCheck room T ∷ []) ≡ Pass
+room-pass room T l = skip-check (roomCheck room T) [] (le-ltb room T l) ∙ none-judged

@@ -1,6 +1,7 @@
 -- What an accepted open was given, what it writes, and that there is a sheet of it for every k.
+--   SplitPassed, split-passed   what checks 9 and 10 find, after others
 --   Passed, open-passed   what the checks of open find
---   open-ready      what the checks of open leave: all that open needs
+--   list-ready, open-ready   what the checks of open leave: all that open needs
 --   sheet-exists    for what an accepted open was given there is exactly one sound sheet with k terms, for every k from 1 to the least known length
 --   openWords g     what open writes: with one term factor i is (Y − c_i)^(m_i)
 --   open-done       open's conditions hold of these words over the old ones ..
@@ -13,11 +14,10 @@ use mathlib.Core.Bool.{false}
 use mathlib.Core.Option.{Option, none, some}
 use mathlib.Core.List.{List, [], _++_}
 use borrow.Author.Tests.{ltb-false}
-use lib.Dec.{ltb}
 use lib.ListN.{length, take, drop, take-append-drop, List·getD-append}
 use lib.Seq.{take-length, drop-at}
 use Rattle.numbers.specs.Words.{word, over}
-use Rattle.numbers.specs.Refusals.{check}
+use Rattle.numbers.specs.Refusals.{Check, check, judge, roomCheck}
 use Rattle.numbers.specs.declared.refusal.Verdict.the-variants.{Pass}
 use Rattle.numbers.proofs.WordsLaws.{true-false, length-over}
 use Rattle.numbers.proofs.RefusalsLaws.{pass-parts, pass-check, reduced}
@@ -55,38 +55,44 @@ pub record Passed (g : Given) (room : ℕ) : Type 0 where
   pub found-is : powersOf g ≡ some found
   pub fits : needed g ≤ room
 
-pub open-passed : (g : Given) (room : ℕ) → openVerdict g room ≡ Pass → Passed g room
-open-passed g room pass =
-    let parts = pass-parts (polynomialChecks g ++ listChecks g) (splitChecks g room) (sym (open-rows-split g room) ∙ pass) in
+-- checks before 9 and 10, and what these let pass
+pub record SplitPassed (before : List Check) (g : Given) (room : ℕ) : Type 0 where
+  pub passed : judge before ≡ Pass
+  pub found : List ℕ
+  pub found-is : powersOf g ≡ some found
+  pub fits : needed g ≤ room
+
+pub split-passed : (before : List Check) (g : Given) (room : ℕ) → judge (before ++ splitChecks g room) ≡ Pass → SplitPassed before g room
+split-passed before g room pass =
+    let parts = pass-parts before (splitChecks g room) pass in
     let c₉ = pass-check (check 9 (isNone (powersOf g)) 0) _ (parts .1) in
     let (l, e) = some-of (powersOf g) (c₉ .0) in
+    record { passed = parts .0; found = l; found-is = e; fits = ltb-false room (needed g) (pass-check (roomCheck room (needed g)) [] (c₉ .1) .0) }
+
+pub open-passed : (g : Given) (room : ℕ) → openVerdict g room ≡ Pass → Passed g room
+open-passed g room pass =
+    let s = split-passed (polynomialChecks g ++ listChecks g) g room (sym (open-rows-split g room) ∙ pass) in
+    record { list = list-pass g (s .passed); found = s .found; found-is = s .found-is; fits = s .fits }
+
+-- with powers found
+pub list-ready : (g : Given) → ListPass g → (l : List ℕ) → powersOf g ≡ some l → GivenReady g
+list-ready g h l e =
+    let s = h .rows .polynomial in
     record {
-      list = list-pass g (parts .0);
-      found = l;
-      found-is = e;
-      fits = ltb-false room (needed g) (pass-check (check 10 (ltb room (needed g)) (needed g)) [] (c₉ .1) .0);
+      prime = s .modulus .prime;
+      small = s .small;
+      degree-low = s .degree-low;
+      degree-high = s .degree-high;
+      width-low = s .width-low;
+      width-high = s .width-high;
+      reduced = λ j u t v. s .rows-below (0 + j * g .N + t) (let n = s .long in omega (arith, in-rows (g .D + 1) (g .N) j t (omega arith) v));
+      top = h .rows .top;
+      lengths = h .rows .lengths;
+      splits = rw e (powers-are g (s .modulus .prime) (h .up) (s .roots-below) l .0 e .1);
     }
 
 pub open-ready : (g : Given) (room : ℕ) → openVerdict g room ≡ Pass → GivenReady g × (needed g ≤ room)
-open-ready g room pass =
-    let a = open-passed g room pass in
-    let h = a .list in
-    let s = h .polynomial in
-    let e = a .found-is in (
-      record {
-        prime = s .modulus .prime;
-        small = s .small;
-        degree-low = s .degree-low;
-        degree-high = s .degree-high;
-        width-low = s .width-low;
-        width-high = s .width-high;
-        reduced = λ j u t v. s .rows-below (0 + j * g .N + t) (let n = s .long in omega (arith, in-rows (g .D + 1) (g .N) j t (omega arith) v));
-        top = h .top;
-        lengths = h .lengths;
-        splits = rw e (powers-are g (s .modulus .prime) (h .up) (s .roots-below) (a .found) .0 e .1);
-      },
-      a .fits,
-    )
+open-ready g room pass = let a = open-passed g room pass in (list-ready g (a .list) (a .found) (a .found-is), a .fits)
 
 -- a slice that begins with the words of good content built on what open was given
 holds-built : (g : Given) (k : ℕ) (a : ℕ → ℕ → ℕ → ℕ) (s : List ℕ)

@@ -1,33 +1,40 @@
 -- A fresh sheet, part after part.
---   open-fresh, ready-fresh, needed-fresh   with the powers found these are the words that open writes, with what it knows, and T
+--   open-fresh, ready-fresh                 with the powers found these are the words that open writes, with what it knows
 --   count-small                             the number of the roots is small
 --   front-written                           the header and the lengths
 --   Begun                                   what is known before the first part is written
 --   roots-part, factors-part                the length of the part that a call is lent
 --   sheet-written                           what stands there after the last one
+--   total-small                             T fits a word
+--   finished-short, finished-done           the answer and the words, by the room that there is
 -- Assumes nothing.
-use Prim.Native.Nat.{ℕ, zero, suc, _+_, _-_, _*_, _≤_}
+use Prim.Native.Nat.{ℕ, zero, suc, _+_, _-_, _*_, _≤_, _<_}
 use native.Mathlib.Nat.{add-mul}
 use native.Mathlib.Omega.{arith}
 use mathlib.Core.Path.{_≡_, refl, sym, _∙_, ap, ap₂, subst}
 use mathlib.Core.Option.{some}
-use mathlib.Core.List.{List, _++_, append-assoc}
+use mathlib.Core.List.{List, [], _++_, append-assoc}
+use borrow.Author.Tests.{lt-ltb}
 use lib.ListN.{length, take, drop, length-append, length-drop}
 use lib.Seq.{length-take-le}
 use Rattle.algebra.specs.Sums.{sumTo}
 use Rattle.numbers.specs.Words.{word, tabulate, over, least}
 use Rattle.numbers.proofs.WordsLaws.{Writing, writing-part, length-over, over-whole}
-use Rattle.numbers.specs.Limits.{largestDegree}
+use Rattle.numbers.specs.Limits.{largestDegree, largestWidth}
+use Rattle.numbers.specs.Refusals.{refusal, Outcome, accepted, refused, result, written, roomCheck}
+use Rattle.numbers.specs.declared.refusal.Verdict.the-variants.{Pass}
+use Rattle.numbers.proofs.RefusalsLaws.{take-check, answer-refused}
 use Rattle.rows.specs.Rows.{rowsOf, table}
 use Rattle.rows.proofs.RowsLaws.{rows-below, length-table, table-ext, table-rows}
 use Rattle.columns.proofs.ColumnLaws.{tabulate-words}
-use Rattle.layout.specs.Layout.{lengthsFrom, rootsFrom, polynomialFrom, factorsFrom, headerOf}
+use Rattle.layout.specs.Layout.{lengthsFrom, rootsFrom, polynomialFrom, factorsFrom, total, headerOf}
 use Rattle.layout.specs.internal.Places.{rootTable}
-use Rattle.layout.proofs.PlacesLaws.{count-sum}
+use Rattle.layout.proofs.PlacesLaws.{count-sum, all-rows-small}
 use Rattle.sheet.specs.Sheet.{Given, given-polynomial}
 use Rattle.sheet.specs.internal.Content.{size, entry, sheetWords}
 use Rattle.open.specs.Open.{powersOf, needed}
-use Rattle.open.specs.internal.Writing.{frontWords, degreeOf, factorTable, freshContent, freshWords, FreshReady}
+use Rattle.open.specs.internal.Writing.{frontWords, degreeOf, factorTable, freshContent, freshWords, FreshReady, roomVerdict, Finished}
+use Rattle.open.proofs.OpenSplitLaws.{room-pass}
 use Rattle.open.proofs.OpeningLaws.{orNil, GivenReady, openWords}
 
 -- with the powers found
@@ -37,10 +44,6 @@ open-fresh g l e = ap (λ o. sheetWords (freshContent g (orNil o))) e
 
 pub ready-fresh : (g : Given) (l : List ℕ) → powersOf g ≡ some l → GivenReady g → FreshReady g l
 ready-fresh g l e h = subst (λ o. FreshReady g (orNil o)) e h
-
-pub needed-fresh : (g : Given) (l : List ℕ) → needed g ≡ size (freshContent g l)
-unfolding needed
-needed-fresh g l = refl
 
 pub count-small : (g : Given) (powers : List ℕ) → FreshReady g powers → length (g .roots) ≤ largestDegree
 count-small g powers h =
@@ -194,3 +197,20 @@ module _ {g : Given} {powers old : List ℕ} {T o a b : ℕ} (h : Begun g powers
             ∙ writing-part ((freshFront g ++ freshRoots g powers) ++ g .rows) (freshFactors g powers) old e₃ b (T - b) written₃ front₃ factors-long (omega arith) .is
             ∙ ap (λ (l : List ℕ). over l old) (append-assoc (freshFront g ++ freshRoots g powers) (g .rows) (freshFactors g powers)
             ∙ append-assoc (freshFront g) (freshRoots g powers) (g .rows ++ freshFactors g powers) ∙ sym fresh-is)
+
+-- T fits a word
+pub total-small : (D N r : ℕ) → D ≤ largestDegree → N ≤ largestWidth → r ≤ largestDegree → total D N r < 4294967296
+total-small D N r d n k = omega (arith, all-rows-small (2 * D + 1) N (omega arith) n)
+
+-- the end: no room, and room
+module _ (g : Given) (powers old : List ℕ) (T : ℕ) (is : T ≡ needed g) where
+  pub finished-short : (a : Outcome ℕ) → a ≡ refused 10 T → length old < T → Finished g powers old a old
+  finished-short a q l =
+      let z = answer-refused {v = roomVerdict g old} (refusal 10 (needed g)) (needed g) (over (freshWords g powers) old) old
+      (take-check (roomCheck (length old) (needed g)) [] (lt-ltb (length old) (needed g) (omega arith))) in
+      record { answers = q ∙ ap (refused 10) is ∙ z .0; leaves = z .1 }
+
+  pub finished-done : (new : List ℕ) → new ≡ over (freshWords g powers) old → T ≤ length old → Finished g powers old (accepted T) new
+  finished-done new q l =
+      let v : roomVerdict g old ≡ Pass = room-pass (length old) (needed g) (omega arith) in
+      record { answers = ap accepted is ∙ sym (ap (λ v. result v (needed g)) v); leaves = q ∙ sym (ap (λ v. written v (over (freshWords g powers) old) old) v) }

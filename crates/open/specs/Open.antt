@@ -6,10 +6,10 @@
 --   powersOf g         such powers, none of them 0, where there are any
 --   isNone o           there are none
 --   needed g           T
---   rising s           the words of s rise
---   polynomialChecks, listChecks, splitChecks, openChecks   the checks: refusals 1 to 6, of which sizeChecks are 3 to 6; 21, 7 and 8; 9 and 10; and all of them
+--   polynomialChecks, listChecks, splitChecks, openChecks   the checks: refusals 1 to 6, of which sizeChecks are 3 to 6; 21, 7 and 8, of which topChecks are 21 and 7; 9 and 10; and all of them
 --   openVerdict g room what they come to
 --   OpenDone           what an accepted call leaves: the sheet of what is given, with one term; no word past T is changed
+--   OpenedBy v g ..    the answer and the words at exit of a call that opens the sheet of g, where its checks come to v
 --   Opened             open's answer and the words at exit
 -- Assumes nothing.
 use Prim.Native.Nat.{ℕ, zero, suc, _+_, _-_, _*_}
@@ -17,9 +17,9 @@ use mathlib.Core.Path.{_≡_}
 use mathlib.Core.Bool.{Bool, true, false, not, _||_}
 use mathlib.Core.Option.{Option, none, some}
 use mathlib.Core.List.{List, [], _∷_, _++_, map}
-use lib.Dec.{ltb, eqb}
+use lib.Dec.{eqb}
 use lib.ListN.{length, drop}
-use Rattle.numbers.specs.Words.{word, allTo, firstLarge, outside, lowWord}
+use Rattle.numbers.specs.Words.{word, allTo, firstLarge, outside, lowWord, rising}
 use Rattle.numbers.specs.Refusals.{Check, check, judge, Outcome, result, modulusChecks, unreduced, widthCheck, roomCheck, Leaves}
 use Rattle.numbers.specs.declared.refusal.Verdict.{Verdict}
 use Rattle.numbers.specs.Limits.{largestDegree}
@@ -58,9 +58,6 @@ isNone (some a) = false
 unfoldable pub needed : Given → ℕ
 needed g = total (g .D) (g .N) (length (g .roots))
 
-abbrev pub rising : List ℕ → Bool
-rising s = allTo (length s - 1) (λ i. ltb (word s i) (word s (suc i)))
-
 -- refusals 3 to 6: each row but row D has a known length
 abbrev pub sizeChecks : Given → List Check
 sizeChecks g =
@@ -74,13 +71,16 @@ sizeChecks g =
 abbrev pub polynomialChecks : Given → List Check
 polynomialChecks g = modulusChecks (g .p) ++ sizeChecks g
 
--- refusals 21, 7 and 8: the known lengths, the top row, and the list of roots
-abbrev pub listChecks : Given → List Check
-listChecks g =
+-- refusals 21 and 7: the known lengths and the top row
+abbrev pub topChecks : Given → List Check
+topChecks g =
     unknownCheck (rowsKnown (g .N) (g .D) (word (g .lengths)) (given-polynomial g))
     ∷ check 7 (not (allTo (g .N) (λ t. eqb (given-polynomial g (g .D) t) (unit t)))) 0
-    ∷ check 8 (outside 1 (g .D) (length (g .roots)) || not (rising (g .roots))) 0
     ∷ []
+
+-- these, and refusal 8: the list of roots
+abbrev pub listChecks : Given → List Check
+listChecks g = topChecks g ++ (check 8 (outside 1 (g .D) (length (g .roots)) || not (rising (g .roots))) 0 ∷ [])
 
 -- refusals 9 and 10; `room` is the length of the output
 abbrev pub splitChecks : Given → ℕ → List Check
@@ -98,7 +98,10 @@ pub record OpenDone (g : Given) (old new : List ℕ) (T : ℕ) : Type 0 where
   pub fills : end new ≡ T
   pub rest : drop T new ≡ drop T old
 
--- open: lent `old`, it answers `answer` and leaves `new`
-pub record Opened (g : Given) (old : List ℕ) (answer : Outcome ℕ) (new : List ℕ) : Type 0 where
-  pub answers : answer ≡ result (openVerdict g (length old)) (needed g)
-  pub leaves : Leaves (openVerdict g (length old)) (OpenDone g old new (needed g)) old new
+-- under the verdict v: lent `old`, a call that opens the sheet of g answers `answer` and leaves `new`
+pub record OpenedBy (v : Verdict) (g : Given) (old : List ℕ) (answer : Outcome ℕ) (new : List ℕ) : Type 0 where
+  pub answers : answer ≡ result v (needed g)
+  pub leaves : Leaves v (OpenDone g old new (needed g)) old new
+
+abbrev pub Opened : (g : Given) (old : List ℕ) (answer : Outcome ℕ) (new : List ℕ) → Type 0
+Opened g old = OpenedBy (openVerdict g (length old)) g old

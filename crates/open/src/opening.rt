@@ -3,27 +3,30 @@ use layout::lengths::rows_known;
 use numbers::judge::check_modulus;
 use numbers::judge::first_large;
 use numbers::judge::outside;
+use numbers::judge::rises;
 use numbers::limits::LARGEST_DEGREE;
 use numbers::limits::LARGEST_WIDTH;
 use numbers::limits::MOST_ROWS;
-use numbers::refusal::Answer;
 use numbers::refusal::Verdict;
 use numbers::refusal::refuse;
-use numbers::refusal::refused;
 use powers::find_powers;
+use roots::find_roots;
 ghost use mathlib.Core.Path.{_≡_};
 ghost use mathlib.Core.Bool.{not, _||_};
-ghost use mathlib.Core.List.{_++_};
-ghost use Prim.Native.Nat.{_+_, _-_, _*_, _≤_, _<_};
+ghost use mathlib.Core.List.{[], _++_};
+ghost use Prim.Native.Nat.{suc, _+_, _-_, _*_, _≤_, _<_};
 ghost use lib.Dec.{eqb};
 ghost use lib.ListN.{length};
-ghost use Rattle.numbers.specs.Words.{lowWord, outside};
-ghost use Rattle.numbers.specs.Refusals.{judge, outcome};
+ghost use Rattle.numbers.specs.Words.{lowWord, outside, over, rising, tabulate};
+ghost use Rattle.numbers.specs.Refusals.{judge};
 ghost use Rattle.numbers.specs.declared.refusal.Verdict.the-variants.{Pass};
-ghost use Rattle.numbers.specs.Limits.{largestDegree, largestWidth};
+ghost use Rattle.numbers.specs.Limits.{largestDegree, largestWidth, mostRows};
+ghost use Rattle.layout.specs.Layout.{rowsAt};
 ghost use Rattle.sheet.specs.Sheet.{givenOf, wholeOf};
-ghost use Rattle.open.specs.internal.Opening.{isUnit, PowersAnswer, CheckedOpen};
-ghost use Rattle.open.specs.Open.{rising, polynomialChecks, listChecks};
+ghost use Rattle.roots.specs.internal.Finding.{FoundRoots};
+ghost use Rattle.open.specs.internal.Opening.{isUnit, PowersAnswer};
+ghost use Rattle.open.specs.Open.{polynomialChecks, topChecks, listChecks};
+ghost use Rattle.open.specs.Find.{firstColumn};
 
 // The words are 1, 0, 0, ..
 fn is_unit(s: &[u32]) -> bool
@@ -39,21 +42,6 @@ fn is_unit(s: &[u32]) -> bool
             return false;
         }
         t += 1;
-    }
-    true
-}
-
-// The words rise.
-fn rises(s: &[u32]) -> bool
-    requires { ⌜ 1 ≤ length (now s) ⌝ }
-    ensures { λ r. ⌜ r ≡ rising (now (s .entry)) ⌝ }
-{
-    let mut i = 1;
-    while i < s.len() {
-        if s[i] <= s[i - 1] {
-            return false;
-        }
-        i += 1;
     }
     true
 }
@@ -105,6 +93,26 @@ fn check_shape(p: u32, d: u32, n: u32, rows: &[u32], lengths: &[u32], roots: &[u
     Verdict::Pass
 }
 
+// Refusals 1 to 7, and 21.
+pub fn check_rows(p: u32, d: u32, n: u32, rows: &[u32], lengths: &[u32], roots: &[u32]) -> Verdict
+    ensures { λ r. ⌜ r ≡ judge (polynomialChecks (givenOf p d n (now (rows .entry)) (now (lengths .entry)) (now (roots .entry)))
+        ++ topChecks (givenOf p d n (now (rows .entry)) (now (lengths .entry)) (now (roots .entry)))) ⌝ }
+{
+    let v = check_shape(p, d, n, rows, lengths, roots);
+    if let Verdict::Refuse(_) = v {
+        return v;
+    }
+    if !rows_known(n as usize, rows, lengths) {
+        return refuse(21, 0);
+    }
+    let a = (d * n) as usize;
+    let e = a + n as usize;
+    if !is_unit(&rows[a..e]) {
+        return refuse(7, 0);
+    }
+    Verdict::Pass
+}
+
 // Whether these are not from 1 to d words that rise.
 fn unlisted(d: u32, roots: &[u32]) -> bool
     ensures { λ r. ⌜ r ≡ (outside 1 d (length (now (roots .entry))) || not (rising (now (roots .entry)))) ⌝ }
@@ -119,21 +127,13 @@ fn unlisted(d: u32, roots: &[u32]) -> bool
 }
 
 // Refusals 1 to 8, and 21.
-fn check_given(p: u32, d: u32, n: u32, rows: &[u32], lengths: &[u32], roots: &[u32]) -> Verdict
+pub fn check_given(p: u32, d: u32, n: u32, rows: &[u32], lengths: &[u32], roots: &[u32]) -> Verdict
     ensures { λ r. ⌜ r ≡ judge (polynomialChecks (givenOf p d n (now (rows .entry)) (now (lengths .entry)) (now (roots .entry)))
         ++ listChecks (givenOf p d n (now (rows .entry)) (now (lengths .entry)) (now (roots .entry)))) ⌝ }
 {
-    let v = check_shape(p, d, n, rows, lengths, roots);
+    let v = check_rows(p, d, n, rows, lengths, roots);
     if let Verdict::Refuse(_) = v {
         return v;
-    }
-    if !rows_known(n as usize, rows, lengths) {
-        return refuse(21, 0);
-    }
-    let a = (d * n) as usize;
-    let e = a + n as usize;
-    if !is_unit(&rows[a..e]) {
-        return refuse(7, 0);
     }
     if unlisted(d, roots) {
         return refuse(8, 0);
@@ -141,42 +141,42 @@ fn check_given(p: u32, d: u32, n: u32, rows: &[u32], lengths: &[u32], roots: &[u
     Verdict::Pass
 }
 
+// f at X = 0, over the first words of e.
+fn first_column(d: u32, n: u32, rows: &[u32], e: &mut [u32])
+    requires { ⌜ (d ≤ largestDegree) × (1 ≤ n) × (n ≤ largestWidth) × (length (now rows) ≡ (d + 1) * n) × (length (now e) ≡ mostRows) ⌝ }
+    ensures { λ _. ⌜ now (e .exit) ≡ over (tabulate (suc d) (λ j. rowsAt (now (rows .entry)) 0 n j 0)) (now (e .entry)) ⌝ }
+{
+    let size = d as usize + 1;
+    columns::load_column(rows, n as usize, 0, &mut e[..size]);
+}
+
 // The powers of the roots that give f at X = 0, where there are any: f is given by rows that have passed refusals 1 to 8. How far they are known does not matter.
-fn powers_of(p: u32, d: u32, n: u32, rows: &[u32], roots: &[u32], powers: &mut [u32]) -> bool
+pub fn powers_of(p: u32, d: u32, n: u32, rows: &[u32], roots: &[u32], powers: &mut [u32]) -> bool
     requires { ⌜ (judge (polynomialChecks (wholeOf p d n (now rows) (now roots)) ++ listChecks (wholeOf p d n (now rows) (now roots))) ≡ Pass)
         × (length (now powers) ≡ length (now roots)) ⌝ }
     ensures { λ r. ⌜ PowersAnswer (wholeOf p d n (now (rows .entry)) (now (roots .entry))) r (now (powers .exit)) ⌝ }
 {
     let size = d as usize + 1;
     let mut e = [0u32; MOST_ROWS];
-    columns::load_column(rows, n as usize, 0, &mut e[..size]);
+    first_column(d, n, rows, &mut e);
     find_powers(p, roots, &mut e[..size], powers)
 }
 
-// Refusals 1 to 10, and 21. The answer is T, and the powers of the roots stand first in `powers`.
-pub fn check_open(
+// All roots of f at X = 0 and their powers, over the first words of these; f is given by rows that have passed refusals 1 to 7. The answer is their number, 0 where f does not split.
+pub fn roots_of(
     p: u32,
     d: u32,
     n: u32,
     rows: &[u32],
-    lengths: &[u32],
-    roots: &[u32],
-    room: usize,
+    roots: &mut [u32],
     powers: &mut [u32],
-) -> Answer
-    requires { ⌜ length (now powers) ≡ largestDegree ⌝ }
-    ensures { λ r. ⌜ CheckedOpen (givenOf p d n (now (rows .entry)) (now (lengths .entry)) (now (roots .entry))) room (outcome r) (now (powers .exit)) ⌝ }
+) -> usize
+    requires { ⌜ (judge (polynomialChecks (wholeOf p d n (now rows) []) ++ topChecks (wholeOf p d n (now rows) [])) ≡ Pass)
+        × (length (now roots) ≡ largestDegree) × (length (now powers) ≡ largestDegree) ⌝ }
+    ensures { λ r. ⌜ FoundRoots p (firstColumn (wholeOf p d n (now (rows .entry)) [])) r (now (roots .exit)) (now (powers .exit)) ⌝ }
 {
-    if let Verdict::Refuse(r) = check_given(p, d, n, rows, lengths, roots) {
-        return Answer::Refused(r);
-    }
-    let count = roots.len();
-    if !powers_of(p, d, n, rows, roots, &mut powers[..count]) {
-        return refused(9, 0);
-    }
-    let total = layout::total_of(d as usize, n as usize, count);
-    if room < total {
-        return refused(10, total as u32);
-    }
-    Answer::Done(total as u32)
+    let size = d as usize + 1;
+    let mut e = [0u32; MOST_ROWS];
+    first_column(d, n, rows, &mut e);
+    find_roots(p, &e[..size], roots, powers)
 }

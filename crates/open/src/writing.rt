@@ -5,11 +5,14 @@ use layout::lengths::least_length;
 use layout::writing::write_header;
 use layout::writing::write_roots;
 use numbers::limits::MOST_ROWS;
+use numbers::refusal::Answer;
+use numbers::refusal::refused;
 use powers::root_power;
 ghost use mathlib.Core.Path.{_≡_};
 ghost use Prim.Native.Nat.{_+_, _*_, _≤_, _<_};
 ghost use lib.ListN.{length};
 ghost use Rattle.numbers.specs.Words.{word, over};
+ghost use Rattle.numbers.specs.Refusals.{outcome};
 ghost use Rattle.numbers.specs.internal.Facts.{AllBelow};
 ghost use Rattle.numbers.specs.internal.Limits.{modulusBound};
 ghost use Rattle.numbers.specs.Limits.{largestDegree, mostRows, largestWidth};
@@ -18,7 +21,7 @@ ghost use Rattle.hensel.specs.Factors.{rootPower, flat};
 ghost use Rattle.layout.specs.Layout.{rootsFrom};
 ghost use Rattle.sheet.specs.Sheet.{givenOf};
 ghost use Rattle.sheet.specs.internal.Content.{size};
-ghost use Rattle.open.specs.internal.Writing.{frontWords, degreeOf, factorTable, freshContent, freshWords, FreshReady};
+ghost use Rattle.open.specs.internal.Writing.{frontWords, degreeOf, factorTable, freshContent, freshWords, FreshReady, Finished};
 
 // Rows with this first column, and 0 past it.
 fn spread(column: &[u32], n: usize, out: &mut [u32])
@@ -73,7 +76,7 @@ fn write_front(p: u32, d: u32, n: u32, r: usize, lengths: &[u32], out: &mut [u32
 }
 
 // The sheet of what is given, whose powers are found, over the first words of out.
-pub fn write_sheet(
+fn write_sheet(
     p: u32,
     d: u32,
     n: u32,
@@ -97,4 +100,27 @@ pub fn write_sheet(
     write_roots(roots, powers, &mut out[first..polynomial]);
     copy(rows, &mut out[polynomial..factors]);
     write_factors(p, width, roots, powers, &mut out[factors..total]);
+}
+
+// That sheet, where `out` has room for it; else refusal 10.
+pub fn finish(
+    p: u32,
+    d: u32,
+    n: u32,
+    rows: &[u32],
+    lengths: &[u32],
+    roots: &[u32],
+    powers: &[u32],
+    out: &mut [u32],
+) -> Answer
+    requires { ⌜ FreshReady (givenOf p d n (now rows) (now lengths) (now roots)) (now powers) × (length (now rows) ≡ (d + 1) * n) × (length (now lengths) ≡ d)
+        × (length (now powers) ≡ length (now roots)) ⌝ }
+    ensures { λ r. ⌜ Finished (givenOf p d n (now (rows .entry)) (now (lengths .entry)) (now (roots .entry))) (now (powers .entry)) (now (out .entry)) (outcome r) (now (out .exit)) ⌝ }
+{
+    let total = layout::total_of(d as usize, n as usize, roots.len());
+    if out.len() < total {
+        return refused(10, total as u32);
+    }
+    write_sheet(p, d, n, rows, lengths, roots, powers, total, out);
+    Answer::Done(total as u32)
 }

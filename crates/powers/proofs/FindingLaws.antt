@@ -2,6 +2,7 @@
 --   Finding ..       the loop's invariant: what is left is the product of the powers that are still to come, for all powers that there are
 --   finding-none, finding-step   before the first root, and one root more
 --   finding-stops    a root that does not divide: there are no such powers
+--   gives-same       what is said of powers looks only at those of the roots
 --   finding-ends     after the last root there are powers exactly where nothing is left but 1
 -- Assumes nothing.
 use Prim.Native.Nat.{ℕ, zero, suc, _+_, _-_, _≤_, _<_, Fin}
@@ -19,7 +20,7 @@ use lib.Seq.{getD-drop, getD-set-same, getD-set-other}
 use Rattle.algebra.specs.Sums.{sumTo}
 use Rattle.algebra.proofs.SumsLaws.{sumTo-zero, sumTo-suc, sumTo-ext}
 use Rattle.algebra.specs.internal.Ring.{CommRing, prod}
-use Rattle.algebra.proofs.RingLaws.{prod-zero, prodFrom, prodFrom-zero, prodFrom-suc}
+use Rattle.algebra.proofs.RingLaws.{prod-zero, prod-ext, prodFrom, prodFrom-zero, prodFrom-suc}
 use Rattle.algebra.specs.internal.Series.{Series}
 use Rattle.algebra.proofs.SeriesLaws.{one-at}
 use Rattle.algebra.specs.internal.Poly.{linPow}
@@ -39,6 +40,13 @@ use Rattle.columns.proofs.SolveLaws.{below-pol, horner-poly}
 use Rattle.powers.specs.internal.Powers.{overField, DividedOut, GivesPowers, FoundPowers}
 use Rattle.hensel.proofs.FactorsLaws.{rootsOf, key, roots-rising}
 use Rattle.powers.proofs.PowersLaws.{horner-last}
+
+pub gives-same : {p : ℕ} {roots e : List ℕ} {m k : ℕ → ℕ} → ((i : ℕ) → i < length roots → m i ≡ k i) → GivesPowers p roots e m → GivesPowers p roots e k
+gives-same {p} {roots} {e} {m} {k} same G = record {
+  low = λ i l. let z = same i l in let y = G .low i l in omega arith;
+  sum = ap suc (sym (sumTo-ext (length roots) same)) ∙ G .sum;
+  product = λ pos. G .product pos ∙ prod-ext (Series (Fp p pos)) (length roots) (λ i l. ap (linPow (Fp p pos) (rem p pos (word roots i))) (same i l));
+}
 
 module _ {p : ℕ} (prime : Prime p) (roots : List ℕ) (reduced : AllBelow p roots) (up : (i : ℕ) → suc i < length roots → word roots i < word roots (suc i)) where
   abbrev pos : zero < p

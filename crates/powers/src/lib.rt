@@ -2,11 +2,11 @@
 // repository. All are proved for every modulus below 2^24.
 use numbers::limits::MOST_ROWS;
 ghost use mathlib.Core.Path.{_≡_};
-ghost use Prim.Native.Nat.{ℕ, suc, _+_, _-_, _*_, _≤_, _<_};
+ghost use Prim.Native.Nat.{_+_, _-_, _*_, _≤_, _<_};
 ghost use lib.ListN.{length};
 ghost use Rattle.algebra.specs.Prime.{Prime};
 ghost use Rattle.numbers.specs.Words.{word, tabulate};
-ghost use Rattle.numbers.specs.internal.Facts.{AllBelow};
+ghost use Rattle.numbers.specs.internal.Facts.{AllBelow, Rising};
 ghost use Rattle.numbers.specs.internal.Limits.{modulusBound};
 ghost use Rattle.numbers.specs.Limits.{mostRows};
 ghost use Rattle.columns.specs.internal.Column.{hornerWord};
@@ -14,7 +14,7 @@ ghost use Rattle.powers.specs.internal.Powers.{DividedOut, FoundPowers};
 ghost use Rattle.hensel.specs.Factors.{rootPower};
 
 // The value at c.
-fn value(p: u32, c: u32, e: &[u32]) -> u32
+pub fn value(p: u32, c: u32, e: &[u32]) -> u32
     requires { ⌜ (1 ≤ p) × (p < modulusBound) × (c < p) ⌝ }
     ensures { λ r. ⌜ r ≡ hornerWord p c (length (now (e .entry))) (word (now (e .entry))) 0 ⌝ }
 {
@@ -46,7 +46,7 @@ fn divide_out(p: u32, c: u32, at: usize, e: &mut [u32]) -> usize
 
 // Whether the polynomial in e, whose last word is 1, is a product of powers, all 1 or more, of the roots, which rise; and these powers.
 pub fn find_powers(p: u32, roots: &[u32], e: &mut [u32], powers: &mut [u32]) -> bool
-    requires { ⌜ Prime p × (p < modulusBound) × AllBelow p (now roots) × ((i : ℕ) → suc i < length (now roots) → word (now roots) i < word (now roots) (suc i))
+    requires { ⌜ Prime p × (p < modulusBound) × AllBelow p (now roots) × Rising (now roots)
         × (length (now roots) ≤ length (now powers)) × (1 ≤ length (now e)) × (length (now e) ≤ mostRows) × AllBelow p (now e) × (word (now e) (length (now e) - 1) ≡ 1) ⌝ }
     ensures { λ r. ⌜ FoundPowers p (now (roots .entry)) (now (e .entry)) r (now (powers .exit)) ⌝ }
 {

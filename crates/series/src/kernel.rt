@@ -2,7 +2,7 @@
 // `requires`, all but `lesser`, `known_to` and `repeat`, and are for the crates of this repository. All are proved for every modulus below 2^24.
 use numbers::kernel::inverse_of;
 ghost use mathlib.Core.Path.{_≡_};
-ghost use Prim.Native.Nat.{_*_, _≤_, _<_, min};
+ghost use Prim.Native.Nat.{_*_, _%_, _≤_, _<_, min};
 ghost use lib.ListN.{length};
 ghost use Rattle.algebra.specs.Prime.{Prime};
 ghost use Rattle.numbers.specs.Words.{word, firstNonzero, tabulate, over};
@@ -114,6 +114,19 @@ pub fn subtract(p: u32, g: &[u32], h: &[u32], out: &mut [u32])
     while t < n {
         out[t] = (g[t] + (p - h[t])) % p;
         t += 1;
+    }
+}
+
+// The sums modulo p, as many as there is room for.
+pub fn reduce_sums(p: u32, sums: &[u64], out: &mut [u32])
+    requires { ⌜ (1 ≤ p) × (p < modulusBound) × (length (now out) ≤ length (now sums)) ⌝ }
+    ensures { λ _. ⌜ now (out .exit) ≡ tabulate (length (now (out .entry))) (λ i. word (now (sums .entry)) i % p) ⌝ }
+{
+    let modulus = p as u64;
+    let mut i = 0;
+    while i < out.len() {
+        out[i] = (sums[i] % modulus) as u32;
+        i += 1;
     }
 }
 

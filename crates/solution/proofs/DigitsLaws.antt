@@ -207,6 +207,3 @@ pub next-last : (p q : ℕ) (b s e : List ℕ) (j v : ℕ) → Sinking (nextWord
 unfolding nextWord
 next-last p q b s e j v w h k z =
     sinking-all _ s (set e 0 v) 0 (sinking-store (nextWord p q b s) s e 1 v (subst (Sinking (nextWord p q b s) s e) k w) (omega arith) h (z ∙ ap (λ x. x % p) (let y : q * word b 0 ≡ 0 + q * word b 0 = omega arith in y))) refl
-
-pub next-start : (f : ℕ → ℕ) (s : List ℕ) → Sinking f s s (length s)
-next-start f s = record { long = refl; kept = λ k l. refl; done = λ k l g. absurd (let z : ⊥ = omega arith in z) }

@@ -1,4 +1,4 @@
--- The starred examples of document 01 with the moduli and the wide file of F-2, the quotients of F-5 and the lengths of F-9, as one list: closed terms of the definitions that
+-- The starred examples of document 01 with the moduli and the wide file of F-2, the quotients of F-5, the lengths of F-9 and the roots of F-3, as one list: closed terms of the definitions that
 -- the contracts cite. `starred` in proofs/StarredLaws is its proof: by evaluation, but for the moduli near 2^24, where laws say how little has to be
 -- evaluated.
 --   Starred    the list
@@ -18,9 +18,10 @@ use Rattle.pair.specs.Test.{pairTest}
 use Rattle.sheet.specs.Test.{soundTest}
 use Rattle.sheet.specs.Sheet.{Given, givenOf, wholeOf, given-reach}
 use Rattle.open.specs.Open.{powersOf, needed, openVerdict}
+use Rattle.open.specs.Find.{withRoots, findVerdict}
 use Rattle.extend.specs.Extend.{extendVerdict}
 use Rattle.text.specs.Text.{bytes, listingText}
-use Rattle.listing.specs.Listing.{jobGiven, listVerdict}
+use Rattle.listing.specs.Listing.{jobGiven, rooted, listVerdict}
 
 -- Y² − 1 − X over 7, three terms; its sheet with k terms and these factor rows, row 0 known to m terms
 abbrev job-rows : List ℕ
@@ -36,8 +37,11 @@ abbrev job-sheet : ℕ → List ℕ → List ℕ
 job-sheet = known-sheet 3
 
 -- Y³ + Y² + XY + X over 2, two terms
+abbrev double-rows : List ℕ
+double-rows = 0 ∷ 1 ∷ 0 ∷ 1 ∷ 1 ∷ 0 ∷ 1 ∷ 0 ∷ []
+
 abbrev double : Given
-double = wholeOf 2 3 2 (0 ∷ 1 ∷ 0 ∷ 1 ∷ 1 ∷ 0 ∷ 1 ∷ 0 ∷ []) (0 ∷ 1 ∷ [])
+double = wholeOf 2 3 2 double-rows (0 ∷ 1 ∷ [])
 
 abbrev double-sheet : List ℕ
 double-sheet = 2 ∷ 3 ∷ 2 ∷ 2 ∷ 2 ∷ 14 ∷ 18 ∷ 26 ∷ 32 ∷ 32 ∷ 2 ∷ 2 ∷ 2 ∷ 2 ∷ 0 ∷ 2 ∷ 1 ∷ 1 ∷ 0 ∷ 1 ∷ 0 ∷ 1 ∷ 1 ∷ 0 ∷ 1 ∷ 0 ∷ 0 ∷ 1 ∷ 0 ∷ 0 ∷ 1 ∷ 0 ∷ []
@@ -69,6 +73,10 @@ wide-file =
     0 ∷ 0 ∷ 7 ∷ 0 ∷ 0 ∷ 0 ∷ 2 ∷ 0 ∷ 0 ∷ 0 ∷ 3 ∷ 0 ∷ 0 ∷ 0 ∷ 2 ∷ 0 ∷ 0 ∷ 0 ∷ 26 ∷ 0 ∷ 0 ∷ 0 ∷ 34 ∷ 0 ∷ 0 ∷ 0 ∷ []
     ++ (1 ∷ 0 ∷ 0 ∷ 0 ∷ 6 ∷ 0 ∷ 0 ∷ 0 ∷ []
     ++ (6 ∷ 0 ∷ 0 ∷ 0 ∷ 6 ∷ 0 ∷ 0 ∷ 0 ∷ 0 ∷ 0 ∷ 0 ∷ 0 ∷ 0 ∷ 0 ∷ 0 ∷ 0 ∷ 0 ∷ 0 ∷ 0 ∷ 0 ∷ 0 ∷ 0 ∷ 0 ∷ 0 ∷ 1 ∷ 0 ∷ 0 ∷ 0 ∷ 0 ∷ 0 ∷ 0 ∷ 0 ∷ 0 ∷ 0 ∷ 0 ∷ 0 ∷ []))
+
+-- and as a file that lists no roots
+abbrev find-file : List ℕ
+find-file = 7 ∷ 0 ∷ 2 ∷ 0 ∷ 3 ∷ 0 ∷ 0 ∷ 0 ∷ 12 ∷ 0 ∷ 12 ∷ 0 ∷ [] ++ (6 ∷ 0 ∷ 6 ∷ 0 ∷ 0 ∷ 0 ∷ 0 ∷ 0 ∷ 0 ∷ 0 ∷ 0 ∷ 0 ∷ 1 ∷ 0 ∷ 0 ∷ 0 ∷ 0 ∷ 0 ∷ [])
 
 -- its listing
 abbrev job-text : List ℕ
@@ -147,3 +155,13 @@ Starred =
     × (judge (knownChecks 7 3 (1 ∷ 2 ∷ 0 ∷ []) 2 (3 ∷ 2 ∷ 1 ∷ []) 2 3) ≡ Refuse (refusal 21 0))
     × (judge (knownChecks 7 3 (0 ∷ 0 ∷ 0 ∷ []) 0 (3 ∷ 2 ∷ 1 ∷ []) 3 3) ≡ Refuse (refusal 21 0))
     × (judge (knownChecks 7 3 (1 ∷ 2 ∷ 0 ∷ []) 4 (3 ∷ 2 ∷ 1 ∷ []) 3 3) ≡ Refuse (refusal 21 0))
+    -- without their roots the job and the polynomial over 2 are what they are with them, and so is the job as a file with r = 0
+    × (withRoots (wholeOf 7 2 3 job-rows []) ≡ job)
+    × (findVerdict (wholeOf 7 2 3 job-rows []) 32 ≡ Pass)
+    × (withRoots (wholeOf 2 3 2 double-rows []) ≡ double)
+    × (findVerdict (wholeOf 2 3 2 double-rows []) 31 ≡ Refuse (refusal 10 32))
+    × (rooted (jobGiven find-file) ≡ job)
+    × (listVerdict find-file ≡ Pass)
+    -- p = 7: Y² + 1 has no root, and Y⁴ − 1 has two of power 1: 9, whatever room there is
+    × (findVerdict (wholeOf 7 2 1 (1 ∷ 0 ∷ 1 ∷ []) []) 0 ≡ Refuse (refusal 9 0))
+    × (findVerdict (wholeOf 7 4 1 (6 ∷ 0 ∷ 0 ∷ 0 ∷ 1 ∷ []) []) 100 ≡ Refuse (refusal 9 0))

@@ -1,18 +1,18 @@
 -- The end theorems, in a row: what is promised of the calls, each with one plain sentence. `theorems` in proofs/TheoremsLaws proves them all.
---   PairTheorems, SheetTheorems, CallTheorems, KnownTheorems, RowTheorems, Theorems   the theorems, and all of them
+--   PairTheorems, SheetTheorems, FindTheorems, CallTheorems, KnownTheorems, RowTheorems, Theorems   the theorems, and all of them
 -- Assumes nothing.
 use Prim.Native.Nat.{ℕ, _+_, _-_, _*_, _%_, _≤_, _<_}
 use mathlib.Core.Path.{_≡_}
 use mathlib.Core.Logic.{_↔_, _≢_}
 use mathlib.Core.Bool.{true}
-use mathlib.Core.List.{List, [], _∷_}
+use mathlib.Core.List.{List, [], _∷_, _++_}
 use lib.ListN.{length, take}
 use Rattle.algebra.specs.Prime.{Prime}
-use Rattle.numbers.specs.Words.{word, tabulate}
+use Rattle.numbers.specs.Words.{word, rising, tabulate}
 use Rattle.numbers.specs.Divisor.{inverseOf}
-use Rattle.numbers.specs.Refusals.{judge, Outcome, accepted}
+use Rattle.numbers.specs.Refusals.{judge, refusal, Outcome, accepted}
 use Rattle.numbers.specs.One.{TheOne, One, OneOutcome}
-use Rattle.numbers.specs.declared.refusal.Verdict.the-variants.{Pass}
+use Rattle.numbers.specs.declared.refusal.Verdict.the-variants.{Pass, Refuse}
 use Rattle.series.specs.Known.{KnownTo, knownTo}
 use Rattle.series.specs.Series.{IsSeries, seriesChecks, inverseChecks, sums, productColumn, product, quotient}
 use Rattle.series.specs.Quotient.{leastPower, quotientChecks, IsQuotient, Divided, quotientWords}
@@ -20,9 +20,11 @@ use Rattle.rows.specs.Rows.{shiftChecks, rowProduct, rowShift, unit}
 use Rattle.pair.specs.Pair.{order, PairWords}
 use Rattle.pair.specs.Test.{pairTest}
 use Rattle.pair.specs.Paired.{Paired}
-use Rattle.sheet.specs.Sheet.{Sound, Given, given-reach, Holds}
+use Rattle.roots.specs.Roots.{value, allRoots}
+use Rattle.sheet.specs.Sheet.{Sound, Given, givenOf, given-reach, Holds}
 use Rattle.sheet.specs.Test.{soundTest}
-use Rattle.open.specs.Open.{needed, openVerdict, Opened}
+use Rattle.open.specs.Open.{needed, polynomialChecks, topChecks, openVerdict, Opened}
+use Rattle.open.specs.Find.{withRoots, findVerdict, Found, IsProduct}
 use Rattle.extend.specs.Extend.{Extended}
 use Rattle.calls.specs.Calls.{Call, Run, Lendable, countAnswers, countTerms, largestAccepted, Demand3}
 use Rattle.calls.specs.Replay.{Replayed}
@@ -55,6 +57,22 @@ pub record SheetTheorems : Type 0 where
   -- Open and extend have exactly one outcome on every input.
   pub open-one : (g : Given) (old : List ℕ) → OneOutcome (Opened g old)
   pub extend-one : (old : List ℕ) (w : ℕ) → OneOutcome (Extended old w)
+
+-- Opening without a list of roots.
+pub record FindTheorems : Type 0 where
+  -- Find has exactly one outcome on every input.
+  pub find-one : (g : Given) (old : List ℕ) → OneOutcome (Found g old)
+  -- Rows that have passed the checks before 9 are refused by 9 exactly where f at X = 0 is no product of powers of Y minus a number: no list of numbers, in
+  -- whatever order and however often each of them is listed, and no powers of them would do.
+  pub find-nine : (g : Given) → judge (polynomialChecks g ++ topChecks g) ≡ Pass → (room : ℕ) → (findVerdict g room ≡ Refuse (refusal 9 0)) ↔ ((l : List ℕ) (m : ℕ → ℕ) → ¬ IsProduct g l m)
+  -- An accepted find is an accepted open with the list of all roots, so that demand 3 takes it as that open ..
+  pub find-opens : (g : Given) (old : List ℕ) (T : ℕ) (new : List ℕ) → Found g old (accepted T) new → Opened (withRoots g) old (accepted T) new
+  -- .. and an accepted open is an accepted find: whoever lists the roots, the sheet is the same.
+  pub open-finds : (p D N : ℕ) (rows lengths roots old : List ℕ) (T : ℕ) (new : List ℕ)
+      → Opened (givenOf p D N rows lengths roots) old (accepted T) new → Found (givenOf p D N rows lengths []) old (accepted T) new
+  -- All roots are listed, each once and rising: a number stands in the list exactly where it is below p and the polynomial has the value 0 there.
+  pub roots-rise : (p : ℕ) (e : List ℕ) → rising (allRoots p e) ≡ true
+  pub roots-are : (p : ℕ) (e : List ℕ) (c : ℕ) → ((i : ℕ) × (i < length (allRoots p e)) × (word (allRoots p e) i ≡ c)) ↔ ((c < p) × (value p c e ≡ 0))
 
 -- Lists of calls, and jobs.
 pub record CallTheorems : Type 0 where
@@ -120,4 +138,4 @@ pub record RowTheorems : Type 0 where
       → rowShift p (D₁ + D₂) N (rowProduct p D₁ D₂ N f g) c ≡ rowProduct p D₁ D₂ N (rowShift p D₁ N f c) (rowShift p D₂ N g c)
 
 abbrev pub Theorems : Type 0
-Theorems = PairTheorems × SheetTheorems × CallTheorems × KnownTheorems × RowTheorems
+Theorems = PairTheorems × SheetTheorems × FindTheorems × CallTheorems × KnownTheorems × RowTheorems

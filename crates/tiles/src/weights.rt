@@ -2,11 +2,12 @@
 // that a row of tiles with the weights is the sum.
 use crate::tile::put_column;
 use crate::tile::tile_row;
+use series::kernel::reduce_sums;
 ghost use mathlib.Core.Path.{_≡_};
 ghost use mathlib.Core.List.{List};
 ghost use Prim.Native.Nat.{ℕ, _+_, _-_, _*_, _%_, _≤_, _<_};
 ghost use lib.ListN.{length};
-ghost use Rattle.numbers.specs.Words.{word, tabulate};
+ghost use Rattle.numbers.specs.Words.{tabulate};
 ghost use Rattle.numbers.specs.internal.Facts.{AllBelow};
 ghost use Rattle.numbers.specs.internal.Limits.{modulusBound};
 ghost use Rattle.numbers.specs.Limits.{mostRows};
@@ -52,18 +53,6 @@ pub fn clear_sums(sums: &mut [u64])
     let mut i = 0;
     while i < sums.len() {
         sums[i] = 0;
-        i += 1;
-    }
-}
-
-fn reduce_sums(p: u32, sums: &[u64], out: &mut [u32])
-    requires { ⌜ (1 ≤ p) × (p < modulusBound) × (length (now out) ≤ length (now sums)) ⌝ }
-    ensures { λ _. ⌜ now (out .exit) ≡ tabulate (length (now (out .entry))) (λ i. word (now (sums .entry)) i % p) ⌝ }
-{
-    let modulus = p as u64;
-    let mut i = 0;
-    while i < out.len() {
-        out[i] = (sums[i] % modulus) as u32;
         i += 1;
     }
 }

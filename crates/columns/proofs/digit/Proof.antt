@@ -6,7 +6,7 @@ use native.Mathlib.Nat.{mod-lt, mul-comm}
 use native.Mathlib.Omega.{arith}
 use lib.ListN.{length, length-set}
 use Rattle.numbers.specs.Words.{word}
-use Rattle.columns.proofs.ColumnLaws.{product-fits, length-horner, digit-rest-length, digit-rest-below, digit-is, length-digit}
+use Rattle.columns.proofs.ColumnLaws.{product-fits, length-horner, digit-rest-length, digit-is, length-digit}
 use borrow.Author.Needs.{needs}
 use Rattle.columns.proofs.digit.Statement.{statement}
 use Rattle.columns.proofs.digit.Tie as tie
@@ -59,14 +59,7 @@ less-multiple-requires c κs =
     let horner = c .before .before .before .before .horner in
     let a = start (c .before) .args in
     let h = horner .last .1 .1 .0 in
-    let q = word h 0 * a .inverse % a .p in (
-      omega arith,
-      omega arith,
-      mod-lt (word h 0 * a .inverse) (omega arith),
-      omega (arith, digit-rest-length (a .p) (a .c) (a .e .now) h q (horner .ensures)),
-      (start (c .before) .pre) .5,
-      digit-rest-below (a .p) (a .c) (a .e .now) h q (omega arith) (horner .ensures),
-    )
+    (omega arith, omega arith, omega (arith, digit-rest-length (a .p) (a .c) (a .e .now) h (word h 0 * a .inverse % a .p) (horner .ensures)))
 
 same-length : tie.Need-same-length
 same-length c =

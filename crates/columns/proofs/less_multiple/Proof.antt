@@ -1,13 +1,13 @@
 -- `columns::less_multiple` meets its contract. The loop's invariant: before j the words are the new ones, from there on the old ones.
 -- Assumes nothing.
 use Prim.Native.Nat.{_≤_, _-_, _+_, _*_, _%_}
-use native.Mathlib.Nat.{mod-lt}
+use native.Mathlib.Nat.{mod-lt, mul-le-mul}
 use native.Mathlib.Omega.{arith}
 use lib.ListN.{length}
 use Rattle.numbers.specs.Words.{word, tabulate}
 use Rattle.numbers.proofs.WordsLaws.{Writing, writing-none, writing-next, writing-all}
 use Rattle.columns.specs.internal.Column.{lessMultiple}
-use Rattle.columns.proofs.ColumnLaws.{product-fits, lessAt, less-turn}
+use Rattle.columns.proofs.ColumnLaws.{lessAt, less-turn}
 use borrow.Author.Needs.{needs}
 use Rattle.columns.proofs.less_multiple.Statement.{statement}
 use Rattle.columns.proofs.less_multiple.Tie as tie
@@ -32,7 +32,12 @@ cast-x : tie.Need-cast-x Inv-loop μ-loop
 cast-x c = omega (arith, c .shared-slice-known .given (c .before .before .loop .j))
 
 mul-x-2 : tie.Need-mul-x-2 Inv-loop μ-loop
-mul-x-2 c = omega (arith, product-fits (c .before .before .before .args .q) (word (c .before .before .before .args .a .now) (c .before .before .loop .j)) (omega arith) (omega (arith, c .shared-slice-known .given (c .before .before .loop .j))))
+mul-x-2 c =
+    let a = c .before .before .before .args in
+    let x = word (a .a .now) (c .before .before .loop .j) in
+    let fits : a .q * x ≤ 4294967295 * 4294967295 =
+    mul-le-mul {n₂ = 4294967295} {m₂ = 4294967295} (omega arith) (omega (arith, c .shared-slice-known .given (c .before .before .loop .j))) in
+    omega arith
 
 rem-x : tie.Need-rem-x Inv-loop μ-loop
 rem-x c = search needs

@@ -1,6 +1,5 @@
 -- What the functions that make open's checks answer. No public contract cites these.
 --   PowersAnswer g   what was found are the powers of refusal 9
---   CheckedOpen      what all checks answer
 --   isUnit s         the words of s are 1, 0, 0, ..
 -- Assumes nothing.
 use Prim.Native.Nat.{ℕ}
@@ -8,13 +7,10 @@ use mathlib.Core.Path.{_≡_}
 use mathlib.Core.Bool.{Bool, true, false}
 use mathlib.Core.Option.{none, some}
 use mathlib.Core.List.{List}
-use lib.ListN.{length, take}
+use lib.ListN.{length}
 use lib.Dec.{eqb}
-use Rattle.numbers.specs.Refusals.{Outcome, result}
-use Rattle.numbers.specs.declared.refusal.Verdict.the-variants.{Pass}
-use Rattle.numbers.specs.Limits.{largestDegree}
 use Rattle.sheet.specs.Sheet.{Given}
-use Rattle.open.specs.Open.{powersOf, needed, openVerdict}
+use Rattle.open.specs.Open.{powersOf}
 use Rattle.numbers.specs.Words.{word, allTo}
 use Rattle.rows.specs.Rows.{unit}
 
@@ -26,9 +22,3 @@ isUnit s = allTo (length s) (λ t. eqb (word s t) (unit t))
 pub record PowersAnswer (g : Given) (found : Bool) (powers : List ℕ) : Type 0 where
   pub yes : found ≡ true → powersOf g ≡ some powers
   pub no : found ≡ false → powersOf g ≡ none
-
--- what the checks answer, and the powers that stand first in the list where they pass
-pub record CheckedOpen (g : Given) (room : ℕ) (answer : Outcome ℕ) (found : List ℕ) : Type 0 where
-  pub answers : answer ≡ result (openVerdict g room) (needed g)
-  pub powers : openVerdict g room ≡ Pass → powersOf g ≡ some (take (length (g .roots)) found)
-  pub long : openVerdict g room ≡ Pass → length found ≡ largestDegree

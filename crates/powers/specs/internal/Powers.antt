@@ -3,6 +3,7 @@
 --   Divided ..          from word `at` on in old, Y − c was divided out a − at times; what is left stands in new from word a on
 --   DividedOut ..       and it can't be divided again
 --   GivesPowers ..      powers, all 1 or more, of the roots that give a polynomial
+--   Unsplit p e         no list of numbers, in any order, has such powers
 --   FoundPowers ..      whether there are any, and then which
 -- Assumes nothing.
 use Prim.Native.Nat.{ℕ, zero, suc, _-_, _≤_, _<_, Fin}
@@ -39,6 +40,10 @@ pub record GivesPowers (p : ℕ) (roots e : List ℕ) (m : ℕ → ℕ) : Type 0
   pub low : (l : ℕ) → l < length roots → 1 ≤ m l
   pub sum : suc (sumTo (length roots) m) ≡ length e
   pub product : (pos : zero < p) → overField p pos e ≡ prod (Series (Fp p pos)) (length roots) (λ l. linPow (Fp p pos) (rem p pos (word roots l)) (m l))
+
+-- no list of numbers, and powers of Y minus these, give the polynomial in e
+abbrev pub Unsplit : (p : ℕ) (e : List ℕ) → Type 0
+Unsplit p e = (l : List ℕ) (m : ℕ → ℕ) → GivesPowers p l e m → ⊥
 
 -- the powers, if there are any
 pub record FoundPowers (p : ℕ) (roots e : List ℕ) (found : Bool) (powers : List ℕ) : Type 0 where

@@ -8,7 +8,8 @@ use lib.ListN.{length}
 use Rattle.numbers.specs.Words.{word}
 use borrow.Author.Needs.{needs}
 use Rattle.solution.specs.internal.Table.{nextWord}
-use Rattle.solution.proofs.DigitsLaws.{next-turn, next-last, next-start}
+use Rattle.solution.proofs.DigitsLaws.{next-turn, next-last}
+use Rattle.columns.proofs.ColumnLaws.{sinking-none}
 use Rattle.columns.proofs.ColumnLaws.{product-fits, Sinking, sinking-store}
 use Rattle.solution.proofs.next_part.Statement.{statement}
 use Rattle.solution.proofs.next_part.Tie as tie
@@ -20,7 +21,7 @@ abbrev μ-loop : tie.MeasureT-loop
 μ-loop p q b e₀ modulus j₀ e j = j
 
 loop-holds : tie.Need-loop-holds Inv-loop μ-loop
-loop-holds c = (omega arith, omega arith, refl, next-start _ _)
+loop-holds c = (omega arith, omega arith, refl, sinking-none _ _)
 
 sub-j : tie.Need-sub-j Inv-loop μ-loop
 sub-j c = search needs

@@ -3,9 +3,9 @@
 use mathlib.Core.Path.{refl, _∙_, ap}
 use native.Mathlib.Omega.{arith}
 use borrow.Author.Needs.{needs}
-use Rattle.numbers.specs.Words.{firstWhere}
+use Rattle.numbers.specs.Words.{firstWhere, allWhere}
 use Rattle.numbers.specs.internal.Limits.{tableBound, lowBound}
-use Rattle.numbers.specs.internal.Primes.{allWhere, firstAmong, inTable}
+use Rattle.numbers.specs.internal.Primes.{firstAmong, inTable}
 use Rattle.numbers.proofs.PrimesLaws.{same, table-is}
 use Rattle.numbers.proofs.kernel.first_high.Statement.{statement}
 use Rattle.numbers.proofs.kernel.first_high.Tie as tie

@@ -1,17 +1,15 @@
--- `tiles::weights::reduce_sums` meets its contract. The invariant: the first i sums are reduced.
+-- `series::kernel::reduce_sums` meets its contract. The invariant: the first i sums are reduced.
 -- Assumes nothing.
 use Prim.Native.Nat.{_≤_, _-_, _%_}
-use mathlib.Core.Path.{refl}
+use mathlib.Core.Path.{refl, _∙_}
 use native.Mathlib.Omega.{arith}
 use lib.ListN.{length}
 use borrow.Author.Needs.{needs}
 use native.Mathlib.Nat.{mod-lt}
 use Rattle.numbers.specs.Words.{word, tabulate}
-use Rattle.numbers.proofs.WordsLaws.{Writing, writing-next}
-use Rattle.tiles.proofs.TileLaws.{step-start}
-use Rattle.tiles.proofs.WeightsLaws.{written}
-use Rattle.tiles.proofs.weights.reduce_sums.Statement.{statement}
-use Rattle.tiles.proofs.weights.reduce_sums.Tie as tie
+use Rattle.numbers.proofs.WordsLaws.{Writing, writing-none, writing-next, writing-all, length-tabulate, over-whole}
+use Rattle.series.proofs.kernel.reduce_sums.Statement.{statement}
+use Rattle.series.proofs.kernel.reduce_sums.Tie as tie
 
 abbrev Inv-loop : tie.InvT-loop
 Inv-loop p sums out₀ modulus i₀ out i = (i ≤ length out₀) × Writing (tabulate i (λ k. word sums k % p)) out₀ out
@@ -20,7 +18,8 @@ abbrev μ-loop : tie.MeasureT-loop
 μ-loop p sums out₀ modulus i₀ out i = length out₀ - i
 
 loop-holds : tie.Need-loop-holds Inv-loop μ-loop
-loop-holds c = (omega arith, step-start _ _)
+unfolding tabulate
+loop-holds c = (omega arith, writing-none _)
 
 mul-out : tie.Need-mul-out Inv-loop μ-loop
 mul-out c = search needs
@@ -53,7 +52,7 @@ same-length : tie.Need-same-length Inv-loop μ-loop
 same-length c = search needs
 
 returns : tie.Need-returns Inv-loop μ-loop
-returns c = written (c .before .loop .i) _ _ _ _ (c .before .loop .inv .1) (omega arith) refl
+returns c = writing-all _ (length (c .before .before .args .out .now)) _ _ _ (c .before .loop .inv .1) (omega arith) ∙ over-whole _ _ (length-tabulate _ _)
 
 pub reduce-sums-spec : {M : Type 1} → statement M
 reduce-sums-spec =

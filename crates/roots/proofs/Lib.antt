@@ -1,0 +1,4 @@
+pub mod RootsLaws
+pub mod ScanLaws
+pub mod FoundLaws
+pub mod SearchLaws
