@@ -375,6 +375,21 @@ uint64_t base_sheet_extend(uint32_t *s, size_t count, uint32_t w) {
     return w;
 }
 
+/* The columns from t up of factors and cofactors are lifted once more; those before it are right. */
+uint64_t base_sheet_correct(uint32_t *s, size_t count, uint32_t j, uint32_t t, uint32_t entry) {
+    if (!base_sheet_test(s, count)) return refuse(13, 0);
+    if (j >= s[1] || t < 1 || t >= s[2]) return refuse(20, 0);
+    if (entry >= s[0]) return refuse(6, 0);
+    s[s[6] + j * s[2] + t] = entry;
+    if (t >= s[3]) return s[3];
+    for (uint32_t *row = s + s[7]; row < s + s[9]; row += s[2]) memset(row + t, 0, (s[3] - t) * sizeof *row);
+    for (size_t i = 0; i < links(s); i++) {
+        struct link l = link_of(s, i);
+        lift(s[0], l.root, s + l.source, s + l.low, l.power, s + l.high, l.codegree, true, s[2], t, s[3]);
+    }
+    return s[3];
+}
+
 /* --- a fresh sheet, which is not timed: what it is given is right --- */
 
 /* Writes the product of (Y - c)^m over factors first..last - 1 to column 0 of the next rows, and gives the row after them. */

@@ -18,6 +18,7 @@ uint32_t base_roots(uint32_t p, uint32_t d, const uint32_t *f, uint32_t *roots, 
 /* Writes a sheet with one term, and answers its number of words. It judges nothing. */
 uint64_t base_sheet_open(uint32_t p, uint32_t d, uint32_t n, const uint32_t *f, const uint32_t *roots, const uint32_t *powers, uint32_t count, uint32_t *sheet);
 uint64_t base_sheet_extend(uint32_t *sheet, size_t sheet_count, uint32_t w);
+uint64_t base_sheet_correct(uint32_t *sheet, size_t sheet_count, uint32_t j, uint32_t t, uint32_t entry);
 uint64_t base_sheet_test(const uint32_t *sheet, size_t sheet_count);
 
 #endif

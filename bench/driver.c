@@ -157,6 +157,11 @@ static uint64_t extend(int side) {
     return (side ? base_sheet_extend : bk_sheet_extend)(out[side], words[side], n);
 }
 
+/* Row 0, in the column in the middle. */
+static uint64_t correct(int side) {
+    return (side ? base_sheet_correct : bk_sheet_correct)(out[side], words[side], 0, n / 2, (f[n / 2] + 1) % p);
+}
+
 static uint64_t test(int side) {
     return (side ? base_sheet_test : bk_sheet_test)(out[side], words[side]);
 }
@@ -190,6 +195,9 @@ static const struct benchmark BENCHMARKS[] = {
     {"extend N/2 to N, 32 simple roots", sheet_input, extend, same_sheet, 32, HALF},
     {"extend N/2 to N, 8 roots of power 4", sheet_input, extend, same_sheet, 8, HALF},
     {"extend N/2 to N, 2 roots of power 16", sheet_input, extend, same_sheet, 2, HALF},
+    {"correct column N/2 of a full sheet, 32 simple roots", sheet_input, correct, same_sheet, 32, FULL},
+    {"correct column N/2 of a full sheet, 8 roots of power 4", sheet_input, correct, same_sheet, 8, FULL},
+    {"correct column N/2 of a full sheet, 2 roots of power 16", sheet_input, correct, same_sheet, 2, FULL},
     {"test of a full sheet, 32 simple roots", sheet_input, test, same_sheet, 32, FULL},
     {"test of a full sheet, 8 roots of power 4", sheet_input, test, same_sheet, 8, FULL},
     {"test of a full sheet, 2 roots of power 16", sheet_input, test, same_sheet, 2, FULL},

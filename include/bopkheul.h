@@ -26,15 +26,15 @@ extern "C" {
 #endif
 
 /* Why a call is refused. Checks run in the order of the numbers, but 21 comes right after 6; where a call is lent a sheet and takes from it what it needs, 13
- * comes first. 17 to 20 are not in use. */
+ * comes first, and 20 before 6. 17 to 19 are not in use. */
 enum bk_refusal {
     BK_ACCEPTED = 0,
     BK_MODULUS_RANGE = 1, /* p is below 2 or above 16,777,215 */
     BK_COMPOSITE = 2,     /* p is composite; detail: its least divisor above 1 */
     BK_DEGREE = 3,        /* a degree bound, or a product's, is above 32; for opening a sheet also 0 */
     BK_TERMS = 4,         /* n is outside 1..256 */
-    BK_ROWS = 5,          /* an input has more or fewer words than d and n give it, or there are not d lengths; see also bk_sheet_replay */
-    BK_UNREDUCED = 6,     /* some coefficient, root or number is not below p; detail: the first one's position from 0, inputs counted on in the order given */
+    BK_ROWS = 5,          /* an input has more or fewer words than d and n give it, or there are not d lengths; replay: the words are no list of calls that fit */
+    BK_UNREDUCED = 6,     /* some coefficient, root or number is not below p; detail: the first one's position from 0, inputs counted on in the order given, and 0 for a corrected entry */
     BK_NOT_MONIC = 7,     /* opening: row d is not 1, 0, 0, .. */
     BK_ROOT_LIST = 8,     /* opening: the roots are none, more than d, or not strictly rising */
     BK_UNSPLIT = 9,       /* opening: f at X = 0 is no product of the Y - root, each taken at least once; finding: it is no product of Y - c, whatever the c */
@@ -45,6 +45,7 @@ enum bk_refusal {
     BK_BEYOND = 14,       /* the terms wanted are 0, more than n, or for a sheet more than its least known length */
     BK_BEHIND = 15,       /* the terms wanted are fewer than those there */
     BK_NO_FACTOR = 16,    /* there is no factor of this index */
+    BK_ENTRY = 20,        /* there is no such entry to correct */
     BK_KNOWN_TERMS = 21   /* a count of known terms or a row's known length is outside 1..n, or a word past it is not 0 */
 };
 
@@ -90,6 +91,10 @@ uint64_t bk_sheet_open(uint32_t p, uint32_t d, uint32_t n, const uint32_t *f, si
 uint64_t bk_sheet_find(uint32_t p, uint32_t d, uint32_t n, const uint32_t *f, size_t f_count, const uint32_t *lengths, size_t lengths_count, uint32_t *out, size_t out_count);
 /* Works the factors out to w terms, from those there; w is at most the least length, word 10. The answer is w. */
 uint64_t bk_sheet_extend(uint32_t *sheet, size_t sheet_count, uint32_t w);
+/* Puts another entry into row j, column t of the polynomial, j below d, t from 1 up and below the row's known length, word 11 + j. The factors are then those of
+ * the corrected polynomial, to as many terms as before, and their number is the answer. Columns of factors that come before t do not depend on the entry, so only
+ * those from t on are changed, and none where t is not among the terms worked. Refused by 13, 20 or 6, in this order. */
+uint64_t bk_sheet_correct(uint32_t *sheet, size_t sheet_count, uint32_t j, uint32_t t, uint32_t entry);
 /* 1 where the words begin with a sound sheet, else 0; it refuses nothing. */
 uint64_t bk_sheet_test(const uint32_t *sheet, size_t sheet_count);
 /* Factor i, counted from 0: writes its root, its power, and start and length, in words of the sheet, of the part that holds its rows below the
@@ -100,9 +105,10 @@ uint64_t bk_sheet_factor(const uint32_t *sheet, size_t sheet_count, uint32_t i, 
  * the detail of 6 are counted from the first word of the part. */
 uint64_t bk_sheet_factor_times(const uint32_t *sheet, size_t sheet_count, uint32_t i, uint32_t e, const uint32_t *g, size_t g_count, uint32_t *out, size_t out_count);
 uint64_t bk_sheet_factor_shift(const uint32_t *sheet, size_t sheet_count, uint32_t i, uint32_t c, uint32_t *out, size_t out_count);
-/* A list of extend calls: call l is lent the first lent[l] words of the sheet and extends to w[l] terms. It writes two words for each call: 0 and the
- * answer, or the refusal's number and detail. Refused by 5: lent and w of unlike counts, or a call that lends more words than there are. */
-uint64_t bk_sheet_replay(uint32_t *sheet, size_t sheet_count, const uint32_t *lent, size_t lent_count, const uint32_t *w, size_t w_count, uint32_t *answers, size_t answers_count);
+/* A list of calls, five words for each: the number of words lent to it, which are the sheet's first ones; its kind, 0 for extend or 1 for correct; and w, 0, 0 or
+ * j, t and the entry. It writes two words for each call: 0 and the answer, or the refusal's number and detail. Refused by 5: the words are no multiple of five, or
+ * some call lends more words than there are, is of neither kind, or is an extend whose last two words are not both 0. */
+uint64_t bk_sheet_replay(uint32_t *sheet, size_t sheet_count, const uint32_t *calls, size_t calls_count, uint32_t *answers, size_t answers_count);
 
 /* The listing of a job file of either kind, with fields of 16 bits or, after a first word of 0, of 32. Where the job names no roots (r = 0) they are found. For a
  * refused job it is the one line `refused NUMBER DETAIL`. The answer is the number of bytes written; the only refusal of the call itself is 10. */
@@ -168,6 +174,9 @@ static inline uint64_t bk_sheet_find_any(uint32_t p, uint32_t d, uint32_t n, con
 static inline uint64_t bk_sheet_extend_any(uint32_t *sheet, size_t sheet_count, uint32_t w) {
     return bk_sheet_extend(bk_words_out(sheet, sheet_count), sheet_count, w);
 }
+static inline uint64_t bk_sheet_correct_any(uint32_t *sheet, size_t sheet_count, uint32_t j, uint32_t t, uint32_t entry) {
+    return bk_sheet_correct(bk_words_out(sheet, sheet_count), sheet_count, j, t, entry);
+}
 static inline uint64_t bk_sheet_test_any(const uint32_t *sheet, size_t sheet_count) {
     return bk_sheet_test(bk_words_in(sheet, sheet_count), sheet_count);
 }
@@ -180,8 +189,8 @@ static inline uint64_t bk_sheet_factor_times_any(const uint32_t *sheet, size_t s
 static inline uint64_t bk_sheet_factor_shift_any(const uint32_t *sheet, size_t sheet_count, uint32_t i, uint32_t c, uint32_t *out, size_t out_count) {
     return bk_sheet_factor_shift(bk_words_in(sheet, sheet_count), sheet_count, i, c, bk_words_out(out, out_count), out_count);
 }
-static inline uint64_t bk_sheet_replay_any(uint32_t *sheet, size_t sheet_count, const uint32_t *lent, size_t lent_count, const uint32_t *w, size_t w_count, uint32_t *answers, size_t answers_count) {
-    return bk_sheet_replay(bk_words_out(sheet, sheet_count), sheet_count, bk_words_in(lent, lent_count), lent_count, bk_words_in(w, w_count), w_count, bk_words_out(answers, answers_count), answers_count);
+static inline uint64_t bk_sheet_replay_any(uint32_t *sheet, size_t sheet_count, const uint32_t *calls, size_t calls_count, uint32_t *answers, size_t answers_count) {
+    return bk_sheet_replay(bk_words_out(sheet, sheet_count), sheet_count, bk_words_in(calls, calls_count), calls_count, bk_words_out(answers, answers_count), answers_count);
 }
 static inline uint64_t bk_list_any(const uint8_t *job, size_t job_count, uint8_t *out, size_t out_count) {
     return bk_list(bk_bytes_in(job, job_count), job_count, bk_bytes_out(out, out_count), out_count);
@@ -200,6 +209,7 @@ static inline uint64_t bk_list_any(const uint8_t *job, size_t job_count, uint8_t
 #define bk_sheet_open bk_sheet_open_any
 #define bk_sheet_find bk_sheet_find_any
 #define bk_sheet_extend bk_sheet_extend_any
+#define bk_sheet_correct bk_sheet_correct_any
 #define bk_sheet_test bk_sheet_test_any
 #define bk_sheet_factor bk_sheet_factor_any
 #define bk_sheet_factor_times bk_sheet_factor_times_any

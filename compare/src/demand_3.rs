@@ -1,11 +1,13 @@
 //! Demand 3 on pairs of sheets over one p: a list of calls on each is answered as the plain count says, and then the two factor lists agree below X^j exactly
-//! when the two polynomials do.
+//! when the two polynomials do that the sheets now hold.
 
-use crate::finding::found;
+use crate::calls::several_goes;
+use crate::corrections::any_entry;
+use crate::finding::opened_or_found;
 use crate::polynomials::{self, Given};
 use crate::random::Random;
 use crate::report::Report;
-use crate::sheets::{extend, opened, several_goes};
+use crate::sheets::{correct, extend};
 use bopkheul::{Factor, Sheet};
 
 /// Rows, one after the other, and their number of columns.
@@ -59,31 +61,52 @@ fn expect_agreement(report: &mut Report, given: [&Given; 2], words: [&[u32]; 2])
     report.kind(kind(f, g, agreeing, worked));
 }
 
-/// A fresh sheet, with the list of its roots or without.
-fn opened_or_found(random: &mut Random, report: &mut Report, given: &Given) -> Vec<u32> {
-    if random.once_in(2) {
-        return opened(random, report, given);
+/// A sheet after a list of calls, and what it holds.
+fn after_calls(random: &mut Random, report: &mut Report, given: &Given) -> (Vec<u32>, Given) {
+    let fresh = opened_or_found(random, report, given, "demand 3: a sheet whose roots were found");
+    let (sheet, held) = several_goes(random, report, given, &fresh);
+    if held.f != given.f {
+        report.kind("demand 3: a sheet that was corrected");
     }
-    report.kind("demand 3: a sheet whose roots were found");
-    found(random, report, given)
+    (sheet, held)
+}
+
+fn extended(report: &mut Report, sheet: &[u32], given: &Given) -> Vec<u32> {
+    let called = extend(report, sheet, given.reach());
+    report.expect(called.outcome == Ok(given.reach()), &format!("{sheet:?} extends to all terms that are known"));
+    called.words
 }
 
 /// Once after lists of calls, so that the sheets have any terms, and once with all that there can be.
 fn compare(random: &mut Random, report: &mut Report, f: &Given, g: &Given) {
-    let sheets = [f, g].map(|given| {
-        let fresh = opened_or_found(random, report, given);
-        several_goes(random, report, given, &fresh)
-    });
-    expect_agreement(report, [f, g], [&sheets[0], &sheets[1]]);
-    let [a, b] = [(f, &sheets[0]), (g, &sheets[1])].map(|(given, sheet)| {
-        let called = extend(report, sheet, given.reach());
-        report.expect(called.outcome == Ok(given.reach()), &format!("{sheet:?} extends to all terms that are known"));
-        called.words
-    });
-    expect_agreement(report, [f, g], [&a, &b]);
+    let [(a, f), (b, g)] = [f, g].map(|given| after_calls(random, report, given));
+    expect_agreement(report, [&f, &g], [&a, &b]);
+    let [a, b] = [(&a, &f), (&b, &g)].map(|(sheet, given)| extended(report, sheet, given));
+    expect_agreement(report, [&f, &g], [&a, &b]);
     if f.lengths != g.lengths {
         report.kind("demand 3: rows known to other lengths");
     }
+}
+
+/// Two polynomials that part in one entry: where it is corrected in the second sheet, both hold the first polynomial, and where it is corrected in the first too,
+/// they have changed places.
+fn corrected(random: &mut Random, report: &mut Report) {
+    let (p, d, n) = (random.prime(), random.degree().clamp(1, 12), random.columns().clamp(2, 24));
+    let f = polynomials::any(random, report, p, d, n);
+    let Some((j, t)) = any_entry(random, &f) else { return };
+    let one = f.word(j, t);
+    let other = random.other(p, one);
+    let g = f.with_word(j, t, other);
+    let [a, b] = [&f, &g].map(|given| {
+        let fresh = opened_or_found(random, report, given, "demand 3: a sheet whose roots were found");
+        extend(report, &fresh, random.within(1, given.reach())).words
+    });
+    expect_agreement(report, [&f, &g], [&a, &b]);
+    let b = correct(report, &b, j, t, one).words;
+    expect_agreement(report, [&f, &f], [&a, &b]);
+    let a = correct(report, &a, j, t, other).words;
+    expect_agreement(report, [&g, &f], [&a, &b]);
+    report.kind("demand 3: parted by one entry, and brought together by its correction");
 }
 
 /// The same polynomial with another number of columns: those that both have are the same.
@@ -105,7 +128,7 @@ fn parting(random: &mut Random, given: &Given, t: u32) -> Given {
         lower.for_each(|row| row[t as usize + 1..].fill_with(|| random.below(p)));
     }
     let word = &mut other.f[(random.below(d) * n + t) as usize];
-    *word = (*word + random.within(1, p - 1)) % p;
+    *word = random.other(p, *word);
     other
 }
 
@@ -151,5 +174,6 @@ fn large(random: &mut Random, report: &mut Report) {
 
 pub fn run(random: &mut Random, report: &mut Report) {
     (0..1_600).for_each(|i| small(random, report, i));
+    (0..400).for_each(|_| corrected(random, report));
     large(random, report);
 }

@@ -1,5 +1,5 @@
 //! Document 01's examples, by the words that it prints, and what document 02 changes in them: the sheet that F-8 makes smaller, the moduli of F-2, the one call for
-//! the pair of F-4, the quotient of F-5, the known lengths of F-9, the roots that F-3 finds.
+//! the pair of F-4, the quotient of F-5, the known lengths of F-9, the roots that F-3 finds, the entry that F-6 corrects.
 
 use crate::random::Random;
 use crate::report::{engine, Outcome, Report};
@@ -55,6 +55,24 @@ fn roots_found(report: &mut Report) {
     report.expect(find([6, 6, 0, 0, 0, 0, 1, 0, 0], 31) == Err((10, 32)) && find([6, 6, 0, 0, 0, 0, 1, 0, 0], 32) == Ok(32), what);
     report.expect(words[..17] == [7, 2, 3, 1, 2, 13, 17, 26, 32, 32, 2, 2, 3, 1, 1, 6, 1], what);
     report.kind("the roots of document 02's F-3");
+}
+
+/// The same polynomial, mistyped as Y² − 1: corrected where column 1 is worked, and before it is.
+fn a_correction(report: &mut Report) {
+    let what = "document 02, F-6: document 01's sheet, corrected";
+    let mut words = [0; 33];
+    let opened = engine(sheet::open(7, 2, 3, &[6, 0, 0, 0, 0, 0, 1, 0, 0], &[3, 3], &[1, 6], &mut words));
+    let mut early = words;
+    report.expect(opened == Ok(32) && engine(sheet::extend(&mut words, 3)) == Ok(3) && words[26..] == [6, 0, 0, 1, 0, 0, 0], what);
+    report.expect(engine(sheet::correct(&mut words[..31], 2, 0, 7)) == Err((13, 0)), what);
+    for place in [(2, 1), (0, 0), (0, 3), (1, 3)] {
+        report.expect(engine(sheet::correct(&mut words, place.0, place.1, 7)) == Err((20, 0)), what);
+    }
+    report.expect(engine(sheet::correct(&mut words, 0, 1, 7)) == Err((6, 0)), what);
+    report.expect(engine(sheet::correct(&mut words, 0, 1, 6)) == Ok(3) && words[17..] == [6, 6, 0, 0, 0, 0, 1, 0, 0, 6, 3, 1, 1, 4, 6, 0], what);
+    report.expect(engine(sheet::correct(&mut early, 0, 1, 6)) == Ok(1) && early[17..] == [6, 6, 0, 0, 0, 0, 1, 0, 0, 6, 0, 0, 1, 0, 0, 0], what);
+    report.expect(engine(sheet::extend(&mut early, 3)) == Ok(3) && early == words, what);
+    report.kind("the correction of document 02's F-6");
 }
 
 fn modulo_2(report: &mut Report) {
@@ -142,4 +160,5 @@ pub fn run(_: &mut Random, report: &mut Report) {
     the_quotient(report);
     known_lengths(report);
     roots_found(report);
+    a_correction(report);
 }

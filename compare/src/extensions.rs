@@ -53,7 +53,7 @@ fn change_factor(random: &mut Random, sheet: &[u32], t: u32) -> Vec<u32> {
     let [p, d, n, ..] = *sheet else { unreachable!("eleven words") };
     let mut changed = sheet.to_vec();
     let word = &mut changed[(sheet[7] + random.below(d) * n + t) as usize];
-    *word = if random.once_in(4) { *word + p } else { (*word + random.within(1, p - 1)) % p };
+    *word = if random.once_in(4) { *word + p } else { random.other(p, *word) };
     changed
 }
 

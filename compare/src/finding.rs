@@ -1,10 +1,11 @@
 //! Sheets whose roots are found: they are open's with the list of all roots, and 9 is given exactly where no such list gives the polynomial at X = 0. Which it is
 //! is known here from how the polynomials are made, and not from the second implementation alone.
 
+use crate::calls::several_goes;
 use crate::polynomials::{self, lines, times, Given};
 use crate::random::Random;
 use crate::report::{engine, every_set, second, Called, Fault, Outcome, Report};
-use crate::sheets::{open, several_goes, total};
+use crate::sheets::{open, opened, total};
 use ::second::field::{least_divisor, pow};
 use std::collections::BTreeMap;
 
@@ -30,6 +31,15 @@ pub fn found(random: &mut Random, report: &mut Report, given: &Given) -> Vec<u32
     report.expect(opened == sheet, &format!("find writes what open writes with the roots of {given:?}"));
     report.kind("finding: what open writes with the list of roots, into T − 1 words and into T");
     sheet
+}
+
+/// A fresh sheet, with the list of its roots or, which is of this kind, without.
+pub fn opened_or_found(random: &mut Random, report: &mut Report, given: &Given, kind: &'static str) -> Vec<u32> {
+    if random.once_in(2) {
+        return opened(random, report, given);
+    }
+    report.kind(kind);
+    found(random, report, given)
 }
 
 /// 9, and so before any room is asked for.

@@ -124,38 +124,26 @@ fn expect(report: &mut Report, given: &Given, expected: Outcome, kind: &'static 
     report.kind(kind);
 }
 
-/// With this word in column t of row j.
-fn with_word(given: &Given, j: usize, t: u32, word: u32) -> Given {
-    let mut changed = given.clone();
-    changed.f[j * given.n as usize + t as usize] = word;
-    changed
-}
-
 /// Every row's length, and the words on both sides of it.
 fn boundaries(random: &mut Random, report: &mut Report, given: &Given) {
     let (n, all) = (given.n, Ok(total(given)));
-    for (j, &length) in given.lengths.iter().enumerate() {
+    for (j, &length) in (0..).zip(&given.lengths) {
         for outside in [0, n + 1, u32::MAX] {
             let mut changed = given.clone();
-            changed.lengths[j] = outside;
+            changed.lengths[j as usize] = outside;
             expect(report, &changed, Err((21, 0)), "open and find: a length outside 1..N");
         }
         if length < n {
-            expect(report, &with_word(given, j, length, 1), Err((21, 0)), "open and find: a word at its row's length is not 0");
-            expect(report, &with_word(given, j, n - 1, 1), Err((21, 0)), "open and find: a row's last word is past its length and not 0");
-            expect(
-                report,
-                &with_word(given, j, length, given.p),
-                Err((6, j as u32 * n + length)),
-                "open and find: a word past its row's length is p",
-            );
+            expect(report, &given.with_word(j, length, 1), Err((21, 0)), "open and find: a word at its row's length is not 0");
+            expect(report, &given.with_word(j, n - 1, 1), Err((21, 0)), "open and find: a row's last word is past its length and not 0");
+            expect(report, &given.with_word(j, length, given.p), Err((6, j * n + length)), "open and find: a word past its row's length is p");
         }
         if length > 1 {
             let word = random.below(given.p);
-            expect(report, &with_word(given, j, length - 1, word), all, "open and find: any word before its row's length");
+            expect(report, &given.with_word(j, length - 1, word), all, "open and find: any word before its row's length");
         }
     }
-    expect(report, &with_word(given, given.d as usize, n - 1, 1), Err((7, 0)), "open and find: the top row has no length");
+    expect(report, &given.with_word(given.d, n - 1, 1), Err((7, 0)), "open and find: the top row has no length");
 }
 
 /// As many lengths as there are rows below the top one, and neither more nor fewer.
@@ -250,7 +238,7 @@ fn factors(random: &mut Random, report: &mut Report, given: &Given, w: u32) -> V
 }
 
 /// Whether column t of all rows is the same.
-fn same_column(n: u32, t: u32, f: &[u32], g: &[u32]) -> bool {
+pub fn same_column(n: u32, t: u32, f: &[u32], g: &[u32]) -> bool {
     let column = |f: &[u32]| -> Vec<u32> { f.chunks(n as usize).map(|row| row[t as usize]).collect() };
     column(f) == column(g)
 }
@@ -273,7 +261,7 @@ fn fillings_differ(random: &mut Random, report: &mut Report, given: &Given) {
     let (n, reach) = (given.n, given.reach());
     let shortest = given.lengths.iter().position(|&length| length == reach).expect("the least is one of them");
     let filled = filled(random, given);
-    let [zero, one] = [0, 1].map(|word| factors(random, report, &with_word(&filled, shortest, reach, word), n));
+    let [zero, one] = [0, 1].map(|word| factors(random, report, &filled.with_word(shortest as u32, reach, word), n));
     let same = (0..reach).all(|t| same_column(n, t, &zero, &one));
     let differ = !same_column(n, reach, &zero, &one);
     report.expect(same && differ, &format!("two ways of filling in {given:?} differ in column {reach} and in none before"));

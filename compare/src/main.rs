@@ -2,6 +2,8 @@
 //! It stops at the first difference with the whole input, and otherwise prints how many cases of each kind it compared; a kind that did not come up is
 //! an error.
 
+mod calls;
+mod corrections;
 mod demand_3;
 mod documents;
 mod extensions;
@@ -26,7 +28,7 @@ use std::process::exit;
 
 type Section = fn(&mut Random, &mut Report);
 
-const SECTIONS: [Section; 14] = [
+const SECTIONS: [Section; 15] = [
     documents::run,
     numbers::run,
     series::run,
@@ -41,6 +43,7 @@ const SECTIONS: [Section; 14] = [
     quotients::run,
     lengths::run,
     finding::run,
+    corrections::run,
 ];
 
 fn seeds() -> Vec<u64> {

@@ -28,6 +28,18 @@ impl Given {
         cut
     }
 
+    /// Column t of row j.
+    pub fn word(&self, j: u32, t: u32) -> u32 {
+        self.f[(j * self.n + t) as usize]
+    }
+
+    /// With this word in column t of row j.
+    pub fn with_word(&self, j: u32, t: u32, word: u32) -> Given {
+        let mut changed = self.clone();
+        changed.f[(j * self.n + t) as usize] = word;
+        changed
+    }
+
     /// The same words, all of them known.
     pub fn all_known(&self) -> Given {
         Given { lengths: vec![self.n; self.d as usize], ..self.clone() }

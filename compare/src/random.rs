@@ -52,6 +52,15 @@ impl Random {
         }
     }
 
+    /// Another number below p.
+    pub fn other(&mut self, p: u32, number: u32) -> u32 {
+        (number + self.within(1, p - 1)) % p
+    }
+
+    pub fn shuffle<T>(&mut self, list: &mut [T]) {
+        (1..list.len()).for_each(|i| list.swap(i, self.below(i as u32 + 1) as usize));
+    }
+
     /// Words below p; now and then mostly zeros, so that factors end early.
     pub fn words(&mut self, p: u32, count: usize) -> Vec<u32> {
         let sparse = self.once_in(4);

@@ -42,7 +42,7 @@ const ROWS: &[u32] = &[1, 2, 3, 4, 5, 6, 10];
 /// Not a call of its own: what the lines say that `list` writes, which is a refusal's number or a listing.
 pub const LINE: &str = "list's line";
 
-pub const OPERATIONS: [Operation; 24] = [
+pub const OPERATIONS: [Operation; 25] = [
     operation("sum", NUMBER),
     operation("difference", NUMBER),
     operation("product", NUMBER),
@@ -60,6 +60,7 @@ pub const OPERATIONS: [Operation; 24] = [
     operation("sheet open", &[1, 2, 3, 4, 5, 6, 7, 8, 9, 10, 21]),
     operation("sheet find", &[1, 2, 3, 4, 5, 6, 7, 9, 10, 21]),
     operation("sheet extend", &[13, 14, 15]),
+    operation("sheet correct", &[6, 13, 20]),
     operation("sheet test", &[]),
     operation("sheet factor", &[10, 13, 16]),
     operation("sheet factor times", &[3, 5, 6, 10, 13, 16]),
@@ -70,13 +71,14 @@ pub const OPERATIONS: [Operation; 24] = [
 ];
 
 /// Kinds of inputs: each must have come up.
-pub const KINDS: [&str; 179] = [
+pub const KINDS: [&str; 221] = [
     "document 01's examples",
     "the sheet of document 02's F-8",
     "the moduli of document 02's F-2",
     "the quotient of document 02's F-5",
     "the known lengths of document 02's F-9",
     "the roots of document 02's F-3",
+    "the correction of document 02's F-6",
     "every modulus from 0 to 66,000",
     "every modulus from 16,776,000 to 16,778,000",
     "a prime below 4,096, squared",
@@ -222,6 +224,45 @@ pub const KINDS: [&str; 179] = [
     "extend: a factor wrong from k up, w = k",
     "extend: a factor wrong from k up, w > k",
     "extend: a factor wrong in column k − 1, w is refused too",
+    "correction: accepted",
+    "correction: undone",
+    "correction: column 1",
+    "correction: column k − 1",
+    "correction: column k",
+    "correction: above column k",
+    "correction: column N − 1",
+    "correction: the last known column, below N − 1",
+    "correction: the entry that is there",
+    "correction: p − 1",
+    "correction: p is below D",
+    "correction: p is above 65,535",
+    "correction: 32 rows and 256 columns",
+    "correction: words past the end",
+    "correction: a sheet whose roots were found",
+    "correction: a sheet changed by hand, still sound",
+    "correction: a sheet changed by hand, not sound",
+    "correction: refused, column 0",
+    "correction: refused, column N or more",
+    "correction: refused, at the row's length, which is below N",
+    "correction: refused, the last column of a row that is not known to it",
+    "correction: refused, row D or more",
+    "correction: refused, a row that would begin past 2^32 words",
+    "correction: refused, N is 1",
+    "correction: refused, p or more",
+    "correction: refused, fewer words than T",
+    "correction: refused, it would mend the sheet",
+    "correction: every set of refusals at once",
+    "list: a correction below the terms worked",
+    "list: a correction from the terms worked up",
+    "list: a correction that is lent too few words",
+    "list: a correction where there is no entry",
+    "list: a correction to p or more",
+    "list: refused, its words are no multiple of five",
+    "list: refused, a call lends more words than there are",
+    "list: refused, a call of neither kind",
+    "list: refused, an extension with a word that is not 0 after w",
+    "list: two lists that end alike, with what open was given",
+    "list: two lists that end alike, with a corrected polynomial",
     "job: of 16-bit fields, listed",
     "job: wide, listed",
     "job: wide, listed, p above 65,535",
@@ -250,6 +291,8 @@ pub const KINDS: [&str; 179] = [
     "demand 3: unlike degrees",
     "demand 3: rows known to other lengths",
     "demand 3: a sheet whose roots were found",
+    "demand 3: a sheet that was corrected",
+    "demand 3: parted by one entry, and brought together by its correction",
 ];
 
 #[derive(Default)]

@@ -1,5 +1,6 @@
-//! Factor sheets: opened, worked on in goes, and damaged word by word.
+//! Factor sheets: opened, worked on by lists of calls, and damaged word by word.
 
+use crate::calls::several_goes;
 use crate::finding::find;
 use crate::lengths;
 use crate::old_layout;
@@ -120,6 +121,11 @@ pub fn extend(report: &mut Report, sheet: &[u32], w: u32) -> Called<u32> {
     report.call("sheet extend", || format!("w {w}"), &[], sheet, |o| engine(e::extend(o, w)), |o| second(s::extend(o, w)))
 }
 
+pub fn correct(report: &mut Report, sheet: &[u32], j: u32, t: u32, entry: u32) -> Called<u32> {
+    let input = || format!("j {j} t {t} entry {entry}");
+    report.call("sheet correct", input, &[], sheet, |o| engine(e::correct(o, j, t, entry)), |o| second(s::correct(o, j, t, entry)))
+}
+
 pub fn test(report: &mut Report, sheet: &[u32]) -> bool {
     let called = report.call("sheet test", String::new, &[], sheet, |o| Ok(e::test(o) as u32), |o| Ok(s::test(o) as u32));
     called.outcome == Ok(1)
@@ -155,80 +161,6 @@ fn opening(random: &mut Random, report: &mut Report) {
     let room = random.room(needed);
     open(report, &given, &random.junk(room));
     find(report, &given, &random.junk(room));
-}
-
-/// A list of calls: each is lent the whole sheet, or only its first words.
-#[derive(Clone, Debug)]
-struct Calls {
-    lent: Vec<u32>,
-    w: Vec<u32>,
-}
-
-/// Of a sheet of what was given, in so many words.
-fn calls(random: &mut Random, given: &Given, length: u32) -> Calls {
-    let (total, n, reach) = (total(given), given.n, given.reach());
-    let count = random.below(7) as usize;
-    let lent = (0..count).map(|_| random.pick(&[length, length, length, total, total - 1, total / 2, 10, 0])).collect();
-    let outside = [0, reach + 1, n, n + 1, u32::MAX]; // n where the reach is less
-    let w = (0..count).map(|_| if random.once_in(5) { random.pick(&outside) } else { random.within(1, reach) }).collect();
-    Calls { lent, w }
-}
-
-/// Lists of unlike lengths, or a call that lends more words than there are.
-fn spoil_calls(random: &mut Random, calls: &mut Calls, length: u32) {
-    match random.below(3) {
-        0 => drop(calls.w.pop()),
-        1 => calls.lent.push(0),
-        _ => calls.lent.iter_mut().take(1).for_each(|words| *words = random.pick(&[length + 1, u32::MAX])),
-    }
-}
-
-/// The calls one by one, then the same list by one call, then the plain count, which knows nothing but what open was given: all must agree.
-pub fn several_goes(random: &mut Random, report: &mut Report, given: &Given, fresh: &[u32]) -> Vec<u32> {
-    let calls = calls(random, given, fresh.len() as u32);
-    let mut sheet = fresh.to_vec();
-    let mut answers = Vec::new();
-    for (&words, &to) in calls.lent.iter().zip(&calls.w) {
-        if (words as usize) < sheet.len() {
-            report.kind("sheet: only its first words lent");
-        }
-        if words >= total(given) && given.reach() < to && to <= given.n {
-            report.kind("sheet: a call of a list wants more than the least length, and at most N");
-        }
-        let called = extend(report, &sheet[..words as usize], to);
-        sheet[..words as usize].copy_from_slice(&called.words);
-        answers.extend(called.outcome.map_or_else(|(number, detail)| [number, detail], |terms| [0, terms]));
-    }
-    let (expected, terms) = s::plain_count(total(given), given.reach(), &calls.lent, &calls.w);
-    report.expect(answers == expected && sheet[3] == terms, &format!("the plain count is that of {calls:?} on {fresh:?}"));
-    replay(random, report, fresh, &calls, &sheet, &answers);
-    report.kind("sheet: worked in several goes");
-    sheet
-}
-
-fn replay(random: &mut Random, report: &mut Report, fresh: &[u32], calls: &Calls, after: &[u32], answers: &[u32]) {
-    let mut calls = calls.clone();
-    if random.once_in(8) {
-        spoil_calls(random, &mut calls, fresh.len() as u32);
-    }
-    let Calls { lent, w } = &calls;
-    let room = random.room(answers.len());
-    let out = random.junk(room);
-    let (mut mine, mut other) = (fresh.to_vec(), fresh.to_vec());
-    let called = report.call(
-        "sheet replay",
-        || format!("{calls:?} on {fresh:?}"),
-        &[lent, w],
-        &out,
-        |o| engine(e::replay(&mut mine, lent, w, o)),
-        |o| second(s::replay(&mut other, lent, w, o)),
-    );
-    let left = if called.outcome.is_ok() { after } else { fresh };
-    report.expect(mine == left && other == left, &format!("{calls:?} by one call leave what they leave one by one, from {fresh:?}"));
-    if called.outcome.is_ok() {
-        report.expect(called.words[..answers.len()] == *answers, "replay's answers are those of the calls");
-        report.kind("sheet: a list of calls");
-    }
 }
 
 /// Where a word of a sheet stands.
@@ -284,8 +216,11 @@ fn place(random: &mut Random, sheet: &[u32]) -> usize {
 fn judge_changed(random: &mut Random, report: &mut Report, changed: &[u32]) -> bool {
     let sound = test(report, changed);
     let w = random.below(changed.get(2).map_or(4, |n| n.wrapping_add(2)).max(1));
-    let spoiled = extend(report, changed, w).outcome == Err((13, 0));
-    report.expect(sound != spoiled, &format!("extend refuses 13 where test says no, and only there: {changed:?}"));
+    let extended = extend(report, changed, w).outcome;
+    let corrected = correct(report, changed, random.below(3), random.below(w.max(3)), random.below(4)).outcome;
+    let as_test_says = [extended, corrected].map(|outcome| sound != (outcome == Err((13, 0))));
+    report.expect(as_test_says == [true; 2], &format!("extend and correct refuse 13 where test says no, and only there: {changed:?}"));
+    report.kind(if sound { "correction: a sheet changed by hand, still sound" } else { "correction: a sheet changed by hand, not sound" });
     reading::any(random, report, changed);
     sound
 }
@@ -384,7 +319,7 @@ fn life_of_a_sheet(random: &mut Random, report: &mut Report, given: &Given, chan
     let fresh = opened(random, report, given);
     let sound = test(report, &fresh);
     report.expect(sound, &format!("an opened sheet is sound: {fresh:?}"));
-    let sheet = several_goes(random, report, given, &fresh);
+    let (sheet, _) = several_goes(random, report, given, &fresh);
     reading::factors(random, report, &sheet);
     for _ in 0..changes {
         change_a_word(random, report, &sheet);

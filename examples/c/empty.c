@@ -38,11 +38,12 @@ static void nothing_given(void) {
     say("sheet find", bk_sheet_find(P, D, N, NULL, 0, NULL, 0, NULL, 0));
     say("sheet open", bk_sheet_open(P, D, N, NULL, 0, NULL, 0, NULL, 0, NULL, 0));
     say("sheet extend", bk_sheet_extend(NULL, 0, N));
+    say("sheet correct", bk_sheet_correct(NULL, 0, 0, 1, 0));
     say("sheet test", bk_sheet_test(NULL, 0));
     say("sheet factor", bk_sheet_factor(NULL, 0, 0, NULL, 0));
     say("sheet factor times", bk_sheet_factor_times(NULL, 0, 0, D, NULL, 0, NULL, 0));
     say("sheet factor shift", bk_sheet_factor_shift(NULL, 0, 0, 1, NULL, 0));
-    say("sheet replay", bk_sheet_replay(NULL, 0, NULL, 0, NULL, 0, NULL, 0));
+    say("sheet replay", bk_sheet_replay(NULL, 0, NULL, 0, NULL, 0));
     say("list", bk_list(NULL, 0, NULL, 0));
 }
 

@@ -71,6 +71,12 @@ pub fn beyond(w: u32, most: u32) -> Option<usize> {
     when(w == 0 || w > most)
 }
 
+/// Row 20: a row below the top one has entries to correct in the columns past the first, as far as it is known.
+pub fn no_entry(lengths: &[u32], j: u32, t: u32) -> Option<usize> {
+    let known = lengths.get(j as usize).copied().unwrap_or(0);
+    when(!(1..known).contains(&t))
+}
+
 /// Row 21: each series has a count of known terms beside it, from 1 to its width, and is what it is when cut there. Series without a count are known.
 pub fn unknown(series: &[Series], known: &[u32]) -> Option<usize> {
     let fits = |(s, &k): (&Series, &u32)| (1..=s.len()).contains(&(k as usize)) && cut_series(s, k as usize) == *s;

@@ -9,7 +9,7 @@ use crate::polynomial::{
     at_zero, column, constant, cut, line_power, lower_words, polynomial, product_column, product_of_all, series, set_column, shift, truncated, words,
     Polynomial,
 };
-use crate::refusal::{beyond, composite, judge, length, modulus_range, short, terms, unknown, unreduced, when, Answer, Refusal};
+use crate::refusal::{beyond, composite, judge, length, modulus_range, no_entry, short, terms, unknown, unreduced, when, Answer, Refusal};
 use crate::roots::roots;
 use crate::rows;
 
@@ -141,6 +141,13 @@ impl Sheet {
         lift(self.p as u64, &self.f, &mut self.factors, self.k, w);
         self.k = w;
     }
+
+    /// Row j of f with another entry in column t; the factors are worked from X = 0 once more, whatever t is.
+    fn correct(&mut self, j: usize, t: usize, entry: u32) {
+        self.f[j][t] = entry as u64;
+        self.factors = starting_factors(self.p, self.n, &self.roots);
+        lift(self.p as u64, &self.f, &mut self.factors, 1, self.k);
+    }
 }
 
 /// (Y − c_i)^(m_i) for each root.
@@ -269,14 +276,28 @@ pub fn test(sheet: &[u32]) -> bool {
     sound(sheet).is_some()
 }
 
+/// Writes a sheet over the words that it was read from.
+fn put(sheet: &mut [u32], worked: &Sheet) {
+    let all = worked.words();
+    sheet[..all.len()].copy_from_slice(&all);
+}
+
 /// Works the sheet on to w terms; the answer is w.
 pub fn extend(sheet: &mut [u32], w: u32) -> Answer {
     let mut read = sound(sheet).ok_or(spoiled())?;
     judge(&[(14, &|| beyond(w, read.reach())), (15, &|| when((w as usize) < read.k))])?;
     read.extend(w as usize);
-    let all = read.words();
-    sheet[..all.len()].copy_from_slice(&all);
+    put(sheet, &read);
     Ok(w)
+}
+
+/// Replaces row j, column t of f, and with it what the factors owe to it; the answer is the number of terms, which stays.
+pub fn correct(sheet: &mut [u32], j: u32, t: u32, entry: u32) -> Answer {
+    let mut read = sound(sheet).ok_or(spoiled())?;
+    judge(&[(20, &|| no_entry(&read.lengths, j, t)), (6, &|| unreduced(read.p, &[&[entry]]))])?;
+    read.correct(j as usize, t as usize, entry);
+    put(sheet, &read);
+    Ok(read.k as u32)
 }
 
 /// A sheet that has factor i: rows 13 and 16.
@@ -311,39 +332,4 @@ pub fn factor_shift(sheet: &[u32], i: u32, c: u32, out: &mut [u32]) -> Answer {
     let read = with_factor(sheet, i)?;
     let lower = lower_words(&read.factors[i as usize]);
     rows::shift(read.p, read.roots[i as usize].1 - 1, read.n as u32, &lower, c, out)
-}
-
-/// Makes the calls of a list: call l is lent the first lent[l] words and extends to w[l] terms. Its answer goes to two words: 0 and w, or the refusal's
-/// number and detail. The answer is the number of words written. Lists of unlike lengths, or a call that lends more words than there are, are 5.
-pub fn replay(sheet: &mut [u32], lent: &[u32], w: &[u32], answers: &mut [u32]) -> Answer {
-    let size = sheet.len();
-    judge(&[(5, &|| when(lent.len() != w.len() || lent.iter().any(|&words| words as usize > size))), (10, &|| short(answers, 2 * w.len()))])?;
-    for (l, (&words, &to)) in lent.iter().zip(w).enumerate() {
-        let answer = match extend(&mut sheet[..words as usize], to) {
-            Ok(terms) => [0, terms],
-            Err(refusal) => [refusal.number, refusal.detail],
-        };
-        answers[2 * l..2 * l + 2].copy_from_slice(&answer);
-    }
-    Ok(2 * w.len() as u32)
-}
-
-/// Demand 3's plain count: fed with T and the least known length and, for each call, the words lent and w, it says what `replay` writes, and K.
-pub fn plain_count(total: u32, reach: u32, lent: &[u32], w: &[u32]) -> (Vec<u32>, u32) {
-    let mut terms = 1;
-    let mut answers = Vec::new();
-    for (&words, &to) in lent.iter().zip(w) {
-        let step = if words < total {
-            [13, 0]
-        } else if to == 0 || to > reach {
-            [14, 0]
-        } else if to < terms {
-            [15, 0]
-        } else {
-            terms = to;
-            [0, to]
-        };
-        answers.extend(step);
-    }
-    (answers, terms)
 }

@@ -1,5 +1,7 @@
-//! The examples of document 01, the sheet of F-8, F-2's moduli and job files, F-4's one call for the pair, F-5's quotients, F-9's known lengths, and F-3's roots.
+//! The examples of document 01, the sheet of F-8, F-2's moduli and job files, F-4's one call for the pair, F-5's quotients, F-9's known lengths, F-3's roots, and
+//! F-6's corrections.
 
+use second::calls::{replay, PlainCount};
 use second::roots::roots;
 use second::{listing, numbers, pair, series, sheet, Refusal};
 
@@ -126,15 +128,158 @@ fn a_wide_job() {
     assert_eq!(listing::text(&[&wide_job(&fields)[..], &[0]].concat()), "refused 5 0\n");
 }
 
+/// Document 01's sheet with rows known to these lengths, and the plain count of it.
+fn opened_square(lengths: [u32; 2]) -> ([u32; 32], PlainCount) {
+    let mut words = [9; 32];
+    assert_eq!(sheet::open(7, 2, 3, &SQUARE, &lengths, &[1, 6], &mut words), Ok(32));
+    (words, PlainCount::new(32, 7, 3, &SQUARE, &lengths))
+}
+
 #[test]
 fn a_list_of_calls_is_the_plain_count() {
-    let mut words = [0; 32];
-    sheet::open(7, 2, 3, &SQUARE, &[3, 3], &[1, 6], &mut words).unwrap();
-    let (lent, w) = ([32, 31, 32, 32, 32], [2, 3, 1, 4, 3]);
+    let (mut words, mut count) = opened_square([3, 3]);
+    let list = [32, 0, 2, 0, 0, 31, 0, 3, 0, 0, 32, 0, 1, 0, 0, 32, 0, 4, 0, 0, 32, 0, 3, 0, 0];
     let mut answers = [9; 11];
-    assert_eq!(sheet::replay(&mut words, &lent, &w, &mut answers), Ok(10));
-    assert_eq!(answers[..10], [0, 2, 13, 0, 15, 0, 14, 0, 0, 3]);
-    assert_eq!(sheet::plain_count(32, 3, &lent, &w), (answers[..10].to_vec(), 3));
+    assert_eq!(replay(&mut words, &list, &mut answers), Ok(10));
+    assert_eq!(answers, [0, 2, 13, 0, 15, 0, 14, 0, 0, 3, 9]);
+    assert_eq!(count.answers(&list), answers[..10]);
+    assert_eq!((count.terms, &count.f[..]), (3, &SQUARE[..]));
+}
+
+/// Of both kinds; the sheet is that of what the count then holds.
+#[test]
+fn corrections_are_counted() {
+    let (mut words, mut count) = opened_square([2, 3]);
+    let list = [
+        [32, 1, 0, 1, 0], // k = 1: nothing but the entry
+        [31, 1, 0, 1, 5], // a word too few
+        [32, 0, 2, 0, 0],
+        [32, 1, 1, 1, 1],
+        [32, 1, 0, 2, 7], // past the length, and not below 7
+        [32, 1, 1, 2, 7],
+        [32, 0, 3, 0, 0],
+        [32, 1, 1, 2, 4],
+        [32, 1, 1, 1, 0],
+    ];
+    let mut answers = [9; 18];
+    assert_eq!(replay(&mut words, list.as_flattened(), &mut answers), Ok(18));
+    assert_eq!(answers, [0, 1, 13, 0, 0, 2, 0, 2, 20, 0, 6, 0, 14, 0, 0, 2, 0, 2]);
+    assert_eq!(count.answers(list.as_flattened()), answers);
+    assert_eq!((count.terms, &count.f[..]), (2, &[6, 0, 0, 0, 0, 4, 1, 0, 0][..]));
+    assert_eq!((words[3], &words[17..26]), (2, &count.f[..]));
+    assert_eq!(words[26..], [6, 0, 0, 1, 0, 0]);
+}
+
+#[test]
+fn what_is_no_list_of_calls_is_5() {
+    let (fresh, _) = opened_square([3, 3]);
+    let good = [32, 0, 2, 0, 0, 32, 1, 0, 1, 5];
+    let mut spoiled: Vec<Vec<u32>> = [1, 4, 6, 9].map(|length| good[..length].to_vec()).to_vec();
+    for (at, word) in [(0, 33), (5, 33), (5, u32::MAX), (1, 2), (1, 1 << 31), (6, u32::MAX), (3, 1), (4, 1), (4, u32::MAX)] {
+        let mut changed = good;
+        changed[at] = word;
+        spoiled.push(changed.to_vec());
+    }
+    spoiled.push(vec![32, 0, 2, 0, 0, 32, 0, 0, 1, 0]);
+    let mut words = fresh;
+    for list in spoiled {
+        assert_eq!(replay(&mut words, &list, &mut []), refused(5, 0), "{list:?}");
+    }
+    assert_eq!(replay(&mut words, &good, &mut [9; 3]), refused(10, 4));
+    assert_eq!(words, fresh);
+    assert_eq!(replay(&mut words, &[], &mut []), Ok(0));
+    assert_eq!(replay(&mut words, &good, &mut [9; 4]), Ok(4));
+    // Y² − 1 + 5X is (Y − 1 + 6X) (Y + 1 + X) to two terms
+    assert_eq!(words[17..], [6, 5, 0, 0, 0, 0, 1, 0, 0, 6, 6, 0, 1, 1, 0]);
+}
+
+/// Y² − 1 − X becomes another polynomial, and then what it was.
+#[test]
+fn an_entry_is_corrected() {
+    let (mut words, _) = opened_square([3, 3]);
+    sheet::extend(&mut words, 3).unwrap();
+    let first = words;
+    let cases = [
+        (&[(0, 1, 0)][..], [6, 0, 0, 1, 0, 0]),        // Y² − 1
+        (&[(0, 1, 0), (0, 2, 6)], [6, 0, 3, 1, 0, 4]), // Y² − 1 − X²
+        (&[(1, 1, 2)], [6, 4, 4, 1, 5, 3]),            // Y² + 2XY − 1 − X, with the roots −X ± (1 + X/2 + 3X²/8)
+    ];
+    for (corrections, factors) in cases {
+        let mut f = SQUARE;
+        for &(j, t, entry) in corrections {
+            f[(3 * j + t) as usize] = entry;
+            assert_eq!(sheet::correct(&mut words, j, t, entry), Ok(3));
+        }
+        assert_eq!((&words[..17], &words[17..26]), (&first[..17], &f[..]));
+        assert_eq!(words[26..], factors);
+        let mut fresh = [9; 32];
+        sheet::open(7, 2, 3, &f, &[3, 3], &[1, 6], &mut fresh).unwrap();
+        sheet::extend(&mut fresh, 3).unwrap();
+        assert_eq!(words, fresh);
+        for &(j, t, _) in corrections {
+            assert_eq!(sheet::correct(&mut words, j, t, SQUARE[(3 * j + t) as usize]), Ok(3));
+        }
+        assert_eq!(words, first);
+    }
+}
+
+/// Worked to two terms: column 1 is among them, and column 2 is not.
+#[test]
+fn from_k_up_only_the_entry_moves() {
+    let mut words = [&opened_square([3, 3]).0[..], &[8, 9]].concat();
+    sheet::extend(&mut words, 2).unwrap();
+    let first = words.clone();
+    assert_eq!(sheet::correct(&mut words, 0, 2, 5), Ok(2));
+    assert_eq!(words[19], 5);
+    words[19] = 0;
+    assert_eq!(words, first);
+    assert_eq!(sheet::correct(&mut words, 0, 1, 5), Ok(2));
+    assert_eq!(words[17..], [6, 5, 0, 0, 0, 0, 1, 0, 0, 6, 6, 0, 1, 1, 0, 8, 9]);
+}
+
+#[test]
+fn which_entries_can_be_corrected() {
+    let (mut words, _) = opened_square([2, 3]);
+    let fresh = words;
+    let call = |words: &mut [u32], j, t, entry| sheet::correct(words, j, t, entry).map_err(|refusal| (refusal.number, refusal.detail));
+    assert_eq!(call(&mut words[..31], 2, 0, 7), Err((13, 0)));
+    assert_eq!(call(&mut [], 0, 1, 0), Err((13, 0)));
+    // the top row and those past it; column 0; the known length, and what it leaves out; an entry of the next row
+    for (j, t) in [(2, 1), (3, 1), (u32::MAX, 1), (0, 0), (1, 0), (0, 2), (0, 3), (0, 4), (1, 3), (1, u32::MAX)] {
+        for entry in [0, 6, 7, u32::MAX] {
+            assert_eq!(call(&mut words, j, t, entry), Err((20, 0)), "{j} {t} {entry}");
+        }
+    }
+    for (j, t) in [(0, 1), (1, 1), (1, 2)] {
+        for entry in [7, 8, u32::MAX] {
+            assert_eq!(call(&mut words, j, t, entry), Err((6, 0)), "{j} {t} {entry}");
+        }
+        assert_eq!(words, fresh);
+        assert_eq!(call(&mut words, j, t, 6), Ok(1));
+        assert_eq!(call(&mut words, j, t, SQUARE[(3 * j + t) as usize]), Ok(1));
+        assert_eq!(words, fresh);
+    }
+}
+
+/// With one column there is no entry past the first.
+#[test]
+fn one_column_has_no_entry() {
+    let mut words = [9; 22];
+    assert_eq!(sheet::open(7, 2, 1, &[6, 0, 1], &[1, 1], &[1, 6], &mut words), Ok(22));
+    for (j, t) in [(0, 0), (0, 1), (1, 1), (0, 2), (2, 0)] {
+        assert_eq!(sheet::correct(&mut words, j, t, 7), refused(20, 0), "{j} {t}");
+    }
+}
+
+/// A wrong entry below k makes the sheet unsound, and then it is too late to correct it.
+#[test]
+fn a_spoiled_sheet_is_not_mended() {
+    let (mut words, _) = opened_square([3, 3]);
+    sheet::extend(&mut words, 2).unwrap();
+    words[18] = 5;
+    for (j, t, entry) in [(0, 1, 6), (0, 1, 7), (2, 0, 6), (2, 0, 7)] {
+        assert_eq!(sheet::correct(&mut words, j, t, entry), refused(13, 0));
+    }
 }
 
 /// Y³ − 1 − X modulo 7: at X = 0 its roots are 1, 2 and 4.
@@ -254,17 +399,18 @@ fn counts_are_judged_after_6_and_before_10() {
 /// Row 0, −1 − X, is known to two terms only.
 #[test]
 fn a_sheet_is_worked_to_its_least_length() {
-    let mut words = [9; 32];
-    assert_eq!(sheet::open(7, 2, 3, &SQUARE, &[2, 3], &[1, 6], &mut words), Ok(32));
+    let (mut words, mut count) = opened_square([2, 3]);
     assert_eq!(words[..17], [7, 2, 3, 1, 2, 13, 17, 26, 32, 32, 2, 2, 3, 1, 1, 6, 1]);
     assert_eq!(sheet::extend(&mut words, 3), refused(14, 0));
     assert_eq!(sheet::extend(&mut words, 2), Ok(2));
     assert_eq!(words[26..], [6, 3, 0, 1, 4, 0]);
-    let (lent, w) = ([32, 32, 31, 32], [3, 1, 2, 2]);
+    let list = [32, 0, 3, 0, 0, 32, 0, 1, 0, 0, 31, 0, 2, 0, 0, 32, 0, 2, 0, 0];
     let mut answers = [9; 8];
-    assert_eq!(sheet::replay(&mut words, &lent, &w, &mut answers), Ok(8));
+    assert_eq!(replay(&mut words, &list, &mut answers), Ok(8));
     assert_eq!(answers, [14, 0, 15, 0, 13, 0, 0, 2]);
-    assert_eq!(sheet::plain_count(32, 2, &[&[32][..], &lent].concat(), &[&[2][..], &w].concat()), ([&[0, 2][..], &answers].concat(), 2));
+    assert_eq!(count.answers(&[32, 0, 2, 0, 0]), [0, 2]);
+    assert_eq!(count.answers(&list), answers);
+    assert_eq!(count.terms, 2);
 }
 
 #[test]
@@ -291,8 +437,7 @@ fn lengths_are_judged_after_6_and_before_7() {
 /// The lengths may be any that leave nothing but 0 past them, with the least of them in word 10 and no more terms worked.
 #[test]
 fn what_lengths_a_sound_sheet_has() {
-    let mut words = [9; 32];
-    sheet::open(7, 2, 3, &SQUARE, &[2, 3], &[1, 6], &mut words).unwrap();
+    let (mut words, _) = opened_square([2, 3]);
     sheet::extend(&mut words, 2).unwrap();
     let with = |reach: u32, lengths: [u32; 2]| {
         let mut changed = words;

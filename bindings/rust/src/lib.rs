@@ -25,7 +25,7 @@
 //! ```
 //!
 //! Here every entry is known. Where rows are known to different lengths, [`Sheet::find`] takes these lengths. [`Sheet::open_known`] and [`Sheet::open`] are for
-//! roots that are known: they take the list of them.
+//! roots that are known: they take the list of them. A mistyped entry is put right by [`Sheet::correct`], and the factors with it.
 
 mod raw;
 mod refusal;
@@ -38,7 +38,7 @@ pub mod series;
 pub mod sheet;
 
 pub use refusal::{Kind, Refusal};
-pub use sheet::{Factor, FromWordsError, Sheet};
+pub use sheet::{Call, Factor, FromWordsError, Sheet};
 
 /// What every operation answers: a number that its documentation names, or why it did nothing. Refusals have the numbers of [`Kind`]; of several that are
 /// listed, the first that applies is given.

@@ -62,20 +62,12 @@ extern "C" {
     ) -> u64;
     pub fn bk_sheet_find(p: u32, d: u32, n: u32, f: Words, f_count: usize, lengths: Words, lengths_count: usize, out: Out, out_count: usize) -> u64;
     pub fn bk_sheet_extend(sheet: Out, sheet_count: usize, w: u32) -> u64;
+    pub fn bk_sheet_correct(sheet: Out, sheet_count: usize, j: u32, t: u32, entry: u32) -> u64;
     pub fn bk_sheet_test(sheet: Words, sheet_count: usize) -> u64;
     pub fn bk_sheet_factor(sheet: Words, sheet_count: usize, i: u32, out: Out, out_count: usize) -> u64;
     pub fn bk_sheet_factor_times(sheet: Words, sheet_count: usize, i: u32, e: u32, g: Words, g_count: usize, out: Out, out_count: usize) -> u64;
     pub fn bk_sheet_factor_shift(sheet: Words, sheet_count: usize, i: u32, c: u32, out: Out, out_count: usize) -> u64;
-    pub fn bk_sheet_replay(
-        sheet: Out,
-        sheet_count: usize,
-        lent: Words,
-        lent_count: usize,
-        w: Words,
-        w_count: usize,
-        answers: Out,
-        answers_count: usize,
-    ) -> u64;
+    pub fn bk_sheet_replay(sheet: Out, sheet_count: usize, calls: Words, calls_count: usize, answers: Out, answers_count: usize) -> u64;
 
     pub fn bk_list(job: *const u8, job_count: usize, out: *mut u8, out_count: usize) -> u64;
 }

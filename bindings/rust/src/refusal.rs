@@ -6,11 +6,11 @@ use std::fmt;
 pub struct Refusal {
     /// The row of the table of refusals.
     pub number: u32,
-    /// The least divisor for 2, the position of the first offender for 6, the words or bytes needed for 10, otherwise 0.
+    /// The least divisor for 2, the position of the first offender for 6 (0 for a corrected entry), the words or bytes needed for 10, otherwise 0.
     pub detail: u32,
 }
 
-/// The refusals by name, each with its number; 17 to 20 are not in use.
+/// The refusals by name, each with its number; 17 to 19 are not in use.
 #[derive(Clone, Copy, Debug, PartialEq, Eq, Hash)]
 #[non_exhaustive]
 pub enum Kind {
@@ -30,12 +30,13 @@ pub enum Kind {
     Beyond,
     Behind,
     NoFactor,
-    KnownTerms = 21,
+    Entry = 20,
+    KnownTerms,
     /// A number that this crate has no name for.
     Unknown,
 }
 
-const KINDS: [Kind; 17] = [
+const KINDS: [Kind; 18] = [
     Kind::ModulusRange,
     Kind::Composite,
     Kind::Degree,
@@ -52,6 +53,7 @@ const KINDS: [Kind; 17] = [
     Kind::Beyond,
     Kind::Behind,
     Kind::NoFactor,
+    Kind::Entry,
     Kind::KnownTerms,
 ];
 
@@ -72,7 +74,7 @@ impl fmt::Display for Refusal {
             Kind::Degree => write!(to, "a degree bound is above 32 (or, opening a sheet, it is 0)"),
             Kind::Terms => write!(to, "the number of columns is not from 1 to 256"),
             Kind::Rows => {
-                write!(to, "an input has more or fewer words than the others give it, or a call of a list is lent more words than there are")
+                write!(to, "an input has more or fewer words than the others give it, or a list has words of no call or lends more than there are")
             }
             Kind::Unreduced => write!(to, "word {detail} of the input, counted from 0, is not below the modulus"),
             Kind::NotMonic => write!(to, "the top row is not 1, 0, 0, .., so the polynomial is not monic"),
@@ -85,6 +87,7 @@ impl fmt::Display for Refusal {
             Kind::Beyond => write!(to, "the terms wanted are none, or more than there are columns, or than the least known length of a sheet"),
             Kind::Behind => write!(to, "the terms wanted are fewer than those there"),
             Kind::NoFactor => write!(to, "there is no factor of this index"),
+            Kind::Entry => write!(to, "there is no such entry to correct: no such row, column 0, or a column past the row's known length"),
             Kind::KnownTerms => write!(to, "a count of known terms or a known length is not from 1 to the columns, or a word past it is not 0"),
             Kind::Unknown => write!(to, "a refusal with no name here, detail {detail}"),
         }

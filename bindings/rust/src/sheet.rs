@@ -25,8 +25,8 @@
 //! ```
 
 use crate::raw::{
-    answer, bk_sheet_extend, bk_sheet_factor, bk_sheet_factor_shift, bk_sheet_factor_times, bk_sheet_find, bk_sheet_open, bk_sheet_replay,
-    bk_sheet_test,
+    answer, bk_sheet_correct, bk_sheet_extend, bk_sheet_factor, bk_sheet_factor_shift, bk_sheet_factor_times, bk_sheet_find, bk_sheet_open,
+    bk_sheet_replay, bk_sheet_test,
 };
 use crate::{Answer, Refusal};
 use std::error::Error;
@@ -87,6 +87,18 @@ pub fn extend(sheet: &mut [u32], w: u32) -> Answer {
     answer(unsafe { bk_sheet_extend(sheet.as_mut_ptr(), sheet.len(), w) })
 }
 
+/// Puts another entry into row `j`, column `t` of the polynomial. The factors are then those of the corrected polynomial, to as many terms as before, and their number is
+/// the answer. Columns of factors that come before `t` do not depend on the entry, so only those from `t` on are changed, and none where `t` is not among the terms
+/// worked.
+///
+/// # Errors
+///
+/// Refused by 13, 20 or 6, in this order; by 20 where `j` is not below the degree, or `t` is 0 or not below the row's known length.
+pub fn correct(sheet: &mut [u32], j: u32, t: u32, entry: u32) -> Answer {
+    // SAFETY: pointer and count are those of one slice.
+    answer(unsafe { bk_sheet_correct(sheet.as_mut_ptr(), sheet.len(), j, t, entry) })
+}
+
 /// Whether the words begin with a sound sheet.
 pub fn test(sheet: &[u32]) -> bool {
     // SAFETY: pointer and count are those of one slice, which is only read.
@@ -127,16 +139,58 @@ pub fn factor_shift(sheet: &[u32], i: u32, c: u32, out: &mut [u32]) -> Answer {
     answer(unsafe { bk_sheet_factor_shift(sheet.as_ptr(), sheet.len(), i, c, out.as_mut_ptr(), out.len()) })
 }
 
-/// Makes a list of extend calls: call `l` is lent the first `lent[l]` words and extends to `w[l]` terms. Two words are written for each call: 0 and its
-/// answer, or the refusal's number and detail. The answer is the number of words written.
+/// A call of a list that [`replay`] makes. It is lent the first `lent` words of the sheet.
+#[derive(Clone, Copy, Debug, PartialEq, Eq)]
+pub enum Call {
+    /// [`extend`] to `w` terms.
+    Extend { lent: u32, w: u32 },
+    /// [`correct`] the entry in row `j`, column `t`.
+    Correct { lent: u32, j: u32, t: u32, entry: u32 },
+}
+
+impl Call {
+    /// The five words that stand for it in a list.
+    pub fn words(self) -> [u32; 5] {
+        match self {
+            Call::Extend { lent, w } => [lent, 0, w, 0, 0],
+            Call::Correct { lent, j, t, entry } => [lent, 1, j, t, entry],
+        }
+    }
+}
+
+/// Makes the calls of a list, each given by its five words ([`Call::words`]). Two words are written for each call: 0 and its answer, or the refusal's number and
+/// detail. The answer is the number of words written.
+///
+/// ```
+/// use bopkheul::{sheet, Call, Sheet};
+///
+/// // Y² − 1 − X modulo 7: the entry −X is corrected to 0, between two steps to three terms
+/// let mut words = Sheet::find_known(7, 2, 3, &[6, 6, 0, 0, 0, 0, 1, 0, 0])?.into_words();
+/// let lent = words.len() as u32;
+/// let list = [
+///     Call::Extend { lent, w: 2 },
+///     Call::Correct { lent, j: 0, t: 1, entry: 0 },
+///     Call::Correct { lent: lent - 1, j: 0, t: 1, entry: 5 }, // no whole sheet
+///     Call::Correct { lent, j: 2, t: 1, entry: 5 },           // the leading 1 is no such entry
+///     Call::Extend { lent, w: 3 },
+/// ];
+/// let mut answers = [9; 10];
+/// assert_eq!(sheet::replay(&mut words, &list.map(Call::words).concat(), &mut answers)?, 10);
+/// assert_eq!(answers, [0, 2, 0, 2, 13, 0, 20, 0, 0, 3]);
+///
+/// let mut fresh = Sheet::find_known(7, 2, 3, &[6, 0, 0, 0, 0, 0, 1, 0, 0])?;
+/// fresh.extend(3)?;
+/// assert_eq!(words, fresh.words());
+/// # Ok::<(), bopkheul::Refusal>(())
+/// ```
 ///
 /// # Errors
 ///
-/// Refused by 5, where the lists have unlike lengths or a call lends more words than there are, or by 10.
-pub fn replay(sheet: &mut [u32], lent: &[u32], w: &[u32], answers: &mut [u32]) -> Answer {
+/// Refused by 5 or 10; by 5 where the words are not five for each call, or are no call's, or a call lends more words than there are.
+pub fn replay(sheet: &mut [u32], calls: &[u32], answers: &mut [u32]) -> Answer {
     let (to, room) = (answers.as_mut_ptr(), answers.len());
     // SAFETY: each pointer goes with the count of its slice; the sheet and `answers` overlap no other.
-    answer(unsafe { bk_sheet_replay(sheet.as_mut_ptr(), sheet.len(), lent.as_ptr(), lent.len(), w.as_ptr(), w.len(), to, room) })
+    answer(unsafe { bk_sheet_replay(sheet.as_mut_ptr(), sheet.len(), calls.as_ptr(), calls.len(), to, room) })
 }
 
 /// A sound sheet that owns its words. Two are equal where the sheets are: words past their ends have no part in it.
@@ -298,6 +352,35 @@ impl Sheet {
     /// Refused by 14, where `w` is 0 or above [`Sheet::reach`], or by 15.
     pub fn extend(&mut self, w: u32) -> Answer {
         extend(&mut self.words, w)
+    }
+
+    /// Replaces the entry in row `j`, column `t` of the polynomial, and with it what the factors owe to it, as [`correct`] does. The answer is the number of terms
+    /// worked, which stays.
+    ///
+    /// ```
+    /// // Y² − 1 + 5X modulo 7, but Y² − 1 − X is meant
+    /// let mut sheet = bopkheul::Sheet::find_known(7, 2, 3, &[6, 5, 0, 0, 0, 0, 1, 0, 0])?;
+    /// sheet.extend(3)?;
+    /// let mistyped = sheet.clone();
+    /// assert_eq!(sheet.factor(0)?.row(0), [6, 6, 4]);
+    ///
+    /// assert_eq!(sheet.correct(0, 1, 6)?, 3);
+    /// assert_eq!(sheet.factor(0)?.row(0), [6, 3, 1]);
+    /// assert_eq!(sheet.factor(1)?.row(0), [1, 4, 6]);
+    ///
+    /// sheet.correct(0, 1, 5)?;
+    /// assert_eq!(sheet, mistyped);
+    ///
+    /// // column 0 is what the roots come from
+    /// assert_eq!(sheet.correct(0, 0, 6).unwrap_err().kind(), bopkheul::Kind::Entry);
+    /// # Ok::<(), bopkheul::Refusal>(())
+    /// ```
+    ///
+    /// # Errors
+    ///
+    /// Refused by 20 or 6, in this order; by 20 where `j` is not below [`Sheet::degree`], or `t` is 0 or not below that row's length of [`Sheet::lengths`].
+    pub fn correct(&mut self, j: u32, t: u32, entry: u32) -> Answer {
+        correct(&mut self.words, j, t, entry)
     }
 
     /// Whether the words are sound. They are: this is the engine's own word for it.

@@ -1,6 +1,6 @@
 //! What the crate adds to the engine: a sheet that owns its words, its getters, and a factor's rows.
 
-use bopkheul::{series, sheet, Factor, FromWordsError, Kind, Refusal, Sheet};
+use bopkheul::{series, sheet, Call, Factor, FromWordsError, Kind, Refusal, Sheet};
 use std::panic::catch_unwind;
 use std::ptr;
 
@@ -160,10 +160,10 @@ fn sums_and_products_to_the_lesser_count() {
 #[test]
 fn refusals_by_name() {
     let kind = |number| Refusal { number, detail: 0 }.kind();
-    for number in (1..=16).chain([21]) {
+    for number in (1..=16).chain([20, 21]) {
         assert_eq!(kind(number) as u32, number);
     }
-    for number in (17..=20).chain([0, 22, u32::MAX]) {
+    for number in (17..=19).chain([0, 22, u32::MAX]) {
         assert_eq!(kind(number), Kind::Unknown, "{number}");
     }
 }
@@ -192,6 +192,63 @@ fn terms_follow_extend() {
     assert_eq!(sheet.extend(4), Err(Refusal { number: 14, detail: 0 }));
     assert_eq!(sheet.terms(), 3);
     assert!(sheet.test());
+}
+
+/// X² in rows 0 and 1 makes it (Y² + X + X²) (Y + 1).
+#[test]
+fn an_entry_is_corrected() {
+    let mut sheet = worked();
+    assert_eq!(sheet.correct(0, 2, 1), Ok(2)); // past the terms worked
+    assert_eq!(sheet.words()[18..30], [0, 1, 1, 0, 1, 0, 1, 0, 0, 1, 0, 0]);
+    assert_eq!(sheet.words()[30..], WORDS[30..]);
+    assert_eq!(sheet.extend(3), Ok(3));
+    assert_eq!(sheet.correct(1, 2, 1), Ok(3));
+    assert_eq!(sheet.words()[30..], [0, 1, 1, 0, 0, 0, 1, 0, 0]);
+    assert!(sheet.test());
+    assert_eq!(sheet.correct(0, 2, 0), Ok(3));
+    assert_eq!(sheet.correct(1, 2, 0), Ok(3));
+    assert_eq!(sheet.words()[18..], WORDS[18..]);
+}
+
+#[test]
+fn what_a_correction_is_refused_by() {
+    let mut sheet = Sheet::open(2, 3, 3, &F, &SHORT, &[0, 1]).expect("f splits so");
+    let fresh = sheet.clone();
+    let refused = |number| Err(Refusal { number, detail: 0 });
+    let mut words = sheet.words().to_vec();
+    assert_eq!(sheet::correct(&mut words[..38], 3, 0, 2), refused(13));
+    // row 1 is known to two terms only, and of row 3 nothing can be corrected
+    for (j, t) in [(0, 0), (1, 2), (0, 3), (2, u32::MAX), (3, 1), (u32::MAX, 1)] {
+        assert_eq!(sheet.correct(j, t, 2), refused(20), "{j} {t}");
+        assert_eq!(sheet.correct(j, t, 0), refused(20), "{j} {t}");
+    }
+    assert_eq!(sheet.correct(1, 1, 2), refused(6));
+    assert_eq!(sheet.correct(1, 1, u32::MAX), refused(6));
+    assert_eq!(sheet.words(), fresh.words());
+    assert_eq!(sheet.correct(1, 1, 0), Ok(1));
+    assert_ne!(sheet, fresh);
+}
+
+#[test]
+fn a_call_in_words() {
+    assert_eq!(Call::Extend { lent: 39, w: 3 }.words(), [39, 0, 3, 0, 0]);
+    assert_eq!(Call::Correct { lent: 38, j: 2, t: 1, entry: 5 }.words(), [38, 1, 2, 1, 5]);
+}
+
+/// Each list is refused as a whole: the good call before the bad words is not made.
+#[test]
+fn what_a_list_of_calls_is_refused_by() {
+    let good = Call::Extend { lent: 39, w: 3 }.words();
+    let replayed = |more: &[u32], room: usize| {
+        let mut words = WORDS;
+        let outcome = sheet::replay(&mut words, &[&good[..], more].concat(), &mut [9; 4][..room]);
+        (outcome.map_err(|refusal| (refusal.kind(), refusal.detail)), words == WORDS)
+    };
+    for more in [&[39][..], &[39, 0, 3, 0], &[39, 2, 3, 0, 0], &[39, 0, 3, 1, 0], &[39, 0, 3, 0, 1], &[40, 0, 3, 0, 0], &[40, 1, 0, 1, 0]] {
+        assert_eq!(replayed(more, 4), (Err((Kind::Rows, 0)), true), "{more:?}");
+    }
+    assert_eq!(replayed(&good, 3), (Err((Kind::Short, 4)), true));
+    assert_eq!(replayed(&good, 4), (Ok(4), false));
 }
 
 #[test]

@@ -6,27 +6,22 @@
 use Prim.Native.Nat.{ℕ, zero, _+_, _*_, _≤_, _<_}
 use native.Mathlib.Nat.{eq-or-lt-of-le}
 use native.Mathlib.Omega.{arith}
-use mathlib.Core.Path.{_≡_, refl, sym, _∙_, ap, subst, fun-ext}
+use mathlib.Core.Path.{_≡_, refl, sym, _∙_, ap, subst}
 use mathlib.Core.Logic.{_≢_, ⊎-elim}
-use mathlib.Core.List.{List, _++_}
-use lib.Dec.{eqb}
+use mathlib.Core.List.{List}
 use lib.ListN.{length, set, length-set}
-use lib.Seq.{getD-set-same, getD-set-other}
-use Rattle.numbers.specs.Words.{word}
+use lib.Seq.{getD-set-same}
+use Rattle.numbers.specs.Words.{word, tabulate}
 use Rattle.numbers.specs.declared.refusal.Verdict.the-variants.{Pass}
-use Rattle.numbers.proofs.WordsLaws.{lt-or-ge, least-le, least-at, least-there}
-use Rattle.numbers.proofs.TestsLaws.{allTo-ext}
+use Rattle.numbers.proofs.WordsLaws.{least-le, least-at, least-there}
 use Rattle.numbers.proofs.RefusalsLaws.{reduced, below-reduced}
-use Rattle.rows.proofs.RowsLaws.{row-fits}
 use Rattle.tiles.proofs.TileLaws.{set-below}
-use Rattle.hensel.specs.Factors.{split}
-use Rattle.layout.proofs.RegionsLaws.{in-rows}
+use Rattle.layout.proofs.RegionsLaws.{in-rows, entry-other}
 use Rattle.sheet.specs.Sheet.{Given, given-reach, given-polynomial}
 use Rattle.sheet.proofs.HoldsLaws.{holds-reach}
-use Rattle.open.specs.Open.{choices, find, splitsTest, powersOf, needed, openVerdict, polynomialChecks, listChecks}
-use Rattle.open.proofs.OpenChecksLaws.{ListPass, list-passes, whole-list, open-rows-split}
-use Rattle.open.proofs.OpenSplitLaws.{split-some, room-pass}
-use Rattle.open.proofs.OpeningLaws.{open-passed}
+use Rattle.open.specs.Open.{needed, openVerdict}
+use Rattle.open.proofs.OpenChecksLaws.{ListPass, whole-list}
+use Rattle.open.proofs.OpeningLaws.{open-passed, column-opens}
 use Rattle.calls.specs.Calls.{SameGiven}
 use Rattle.calls.specs.Filling.{filled, Fills, SameFilled, OwnFilled, ApartFilled}
 use Rattle.calls.proofs.Demand3Laws.{holds-agree}
@@ -74,14 +69,6 @@ module _ (g : Given) (h : ListPass g) where
         (λ (u : j < g .D). F .known j u zero (h .rows .lengths j u .low))
         (eq-or-lt-of-le l)
 
-    tests-same : (l : List ℕ) → splitsTest f l ≡ splitsTest g l
-    unfolding splitsTest
-    tests-same l = allTo-ext _ _ _ (λ j u. ap (eqb (split (g .p) (length (g .roots)) (word (g .roots)) (word l) j)) (column-zero j (omega arith)))
-
-    powers-same : powersOf f ≡ powersOf g
-    unfolding powersOf
-    powers-same = ap (λ test. find test (choices (length (g .roots)) (g .D))) (fun-ext tests-same)
-
   own : Fills g (g .rows)
   own = record { long = h .rows .polynomial .long; reduced = below-reduced (g .p) (g .rows) (h .rows .polynomial .rows-below); known = λ j l t u. refl; top = λ t l. refl }
 
@@ -96,45 +83,23 @@ module _ (g : Given) (h : ListPass g) where
     fits : place < length (g .rows)
     fits = omega (arith, h .rows .polynomial .long, in-rows (g .D + 1) N j m (omega arith) short)
 
-    -- words of other rows, and of other columns, stand elsewhere
-    row-apart : (i t : ℕ) → t < N → i ≢ j → 0 + i * N + t ≢ place
-    row-apart i t l ne e =
-        ⊎-elim (λ (u : i < j). let z : ⊥ = omega (arith, row-fits i j N u) in z)
-        (λ (u : j ≤ i). ⊎-elim (λ (q : j ≡ i). ne (sym q)) (λ (v : j < i). let z : ⊥ = omega (arith, row-fits j i N v) in z) (eq-or-lt-of-le u))
-        (lt-or-ge i j)
-
-    elsewhere : (i t : ℕ) → 0 + i * N + t ≢ place → given-polynomial (filled g other) i t ≡ given-polynomial g i t
-    elsewhere i t ne = getD-set-other (g .rows) place (0 + i * N + t) 1 0 ne
-
-    column-apart : (i t : ℕ) → i < g .D → t < word (g .lengths) i → 0 + i * N + t ≢ place
-    column-apart i t l u e =
-        let v = h .rows .lengths i l .high in
-        ⊎-elim
-        (λ (w : i < j). row-apart i t (omega arith) (omega arith) e)
-        (λ (w : j ≤ i). ⊎-elim
-        (λ (q : j ≡ i). let y = ap (λ x. x * N) q in let x = ap (word (g .lengths)) q in let z : ⊥ = omega arith in z)
-        (λ (w : j < i). row-apart i t (omega arith) (omega arith) e)
-        (eq-or-lt-of-le w))
-        (lt-or-ge i j)
+    -- nothing that is known moves
+    elsewhere : (i t : ℕ) → t < N → ¬ ((i ≡ j) × (t ≡ m)) → given-polynomial (filled g other) i t ≡ given-polynomial g i t
+    elsewhere = entry-other (g .rows) 0 N j m 1 short
 
     made : Fills g other
     made = record {
       long = length-set (g .rows) place 1 ∙ h .rows .polynomial .long;
       reduced = below-reduced (g .p) other (set-below (g .p) (g .rows) place 1 (h .rows .polynomial .modulus .prime .two-le) (h .rows .polynomial .rows-below));
-      known = λ i l t u. elsewhere i t (column-apart i t l u);
-      top = λ t l. elsewhere (g .D) t (row-apart (g .D) t l (omega arith));
+      known = λ i l t u. elsewhere i t (omega (arith, h .rows .lengths i l .high)) (λ (x, y). let q = ap (word (g .lengths)) x in let z : ⊥ = omega arith in z);
+      top = λ t l. elsewhere (g .D) t l (λ (x, y). let z : ⊥ = omega arith in z);
     }
 
     apart : given-polynomial (filled g (g .rows)) j m ≢ given-polynomial (filled g other) j m
     apart e = let a = h .rows .lengths j low .rest m (omega arith) short in let b = getD-set-same (g .rows) place 1 0 fits in let z : ⊥ = omega (arith, e) in z
 
 pub filled-opens : (g : Given) (rows : List ℕ) → openVerdict g (needed g) ≡ Pass → Fills g rows → openVerdict (filled g rows) (needed (filled g rows)) ≡ Pass
-filled-opens g rows pass F =
-    let a = open-passed g (needed g) pass in
-    let f = filled g rows in
-    open-rows-split f (needed f)
-    ∙ split-some (polynomialChecks f ++ listChecks f) (list-passes f (filled-list g (a .list) rows F)) f (needed f) (a .found) (powers-same g (a .list) rows F ∙ a .found-is)
-    ∙ room-pass (needed f) (needed f) (omega arith)
+filled-opens g rows pass F = let h = open-passed g (needed g) pass .list in column-opens g rows (tabulate (g .D) (λ _. g .N)) (column-zero g h rows F) pass (filled-list g h rows F)
 
 pub filled-apart : (g : Given) → openVerdict g (needed g) ≡ Pass → given-reach g < g .N → ApartFilled g
 filled-apart g pass short =

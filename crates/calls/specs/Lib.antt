@@ -1,4 +1,5 @@
 pub mod Calls
 pub mod Replay
 pub mod Filling
+pub mod Afresh
 pub mod internal

@@ -17,13 +17,15 @@ ghost use Rattle.series.specs.Quotient.{leastPower, quotientChecks, QuotientDon
 ghost use Rattle.rows.specs.Rows.{rowsChecks, productChecks, shiftChecks, rowSum, rowProduct, rowShift};
 ghost use Rattle.pair.specs.Paired.{pairChecks, PairDone};
 ghost use Rattle.pair.specs.Pair.{order};
+ghost use Rattle.layout.specs.Layout.{terms};
 ghost use Rattle.sheet.specs.Sheet.{Given, givenOf};
 ghost use Rattle.sheet.specs.Test.{soundTest};
 ghost use Rattle.sheet.specs.Reading.{timesChecks, timesSize, timesWords, shiftedChecks, shiftedSize, shiftedWords};
 ghost use Rattle.open.specs.Open.{openVerdict, needed, OpenDone};
 ghost use Rattle.open.specs.Find.{withRoots, findVerdict};
 ghost use Rattle.extend.specs.Extend.{extendVerdict, ExtendDone};
-ghost use Rattle.calls.specs.Replay.{callsTo, replayVerdict, ReplayLeaves};
+ghost use Rattle.correct.specs.Correct.{correctVerdict, CorrectDone};
+ghost use Rattle.calls.specs.Replay.{callCount, callsTo, answerCount, replayVerdict, ReplayLeaves};
 ghost use Rattle.listing.specs.Listing.{Listed};
 ghost use Rattle.capi.specs.Packed.{packed, packedNumber, Packs};
 ghost use Rattle.capi.specs.Factor.{factorChecks, factorWords};
@@ -253,6 +255,15 @@ pub extern "C" fn bk_sheet_extend(sheet: &mut [u32], w: u32) -> u64
     pack(extend::extend(sheet, w))
 }
 
+// Row j, column t of the polynomial becomes `entry`.
+#[no_mangle]
+pub extern "C" fn bk_sheet_correct(sheet: &mut [u32], j: u32, t: u32, entry: u32) -> u64
+    ensures answer { λ r. ⌜ r ≡ packed (result (correctVerdict (now (sheet .entry)) j t entry) (terms (now (sheet .entry)))) ⌝ }
+    ensures words { λ _. ⌜ Leaves (correctVerdict (now (sheet .entry)) j t entry) (CorrectDone (now (sheet .entry)) j t entry (now (sheet .exit))) (now (sheet .entry)) (now (sheet .exit)) ⌝ }
+{
+    pack(correct::correct(sheet, j, t, entry))
+}
+
 // 1 for a sound sheet.
 #[no_mangle]
 pub extern "C" fn bk_sheet_test(sheet: &[u32]) -> u64
@@ -301,19 +312,14 @@ pub extern "C" fn bk_sheet_factor_shift(sheet: &[u32], i: u32, c: u32, out: &mut
     pack(sheet::factor_shift(sheet, i, c, out))
 }
 
-// A list of extend calls: call i is lent the first `lent[i]` words of the sheet and extends to `w[i]` terms. Two words are written for each call.
+// A list of calls, five words each: words lent, kind, and w, 0, 0 for an extend, or j, t, entry for a correction. Two words are written for each call.
 #[no_mangle]
-pub extern "C" fn bk_sheet_replay(
-    sheet: &mut [u32],
-    lent: &[u32],
-    w: &[u32],
-    answers: &mut [u32],
-) -> u64
-    ensures answer { λ r. ⌜ r ≡ packed (result (replayVerdict (length (now (sheet .entry))) (now (lent .entry)) (now (w .entry)) (length (now (answers .entry)))) (lowWord (2 * length (now (lent .entry))))) ⌝ }
-    ensures words { λ _. ⌜ ReplayLeaves (replayVerdict (length (now (sheet .entry))) (now (lent .entry)) (now (w .entry)) (length (now (answers .entry))))
-        (callsTo (length (now (lent .entry))) (now (lent .entry)) (now (w .entry))) (now (sheet .entry)) (now (sheet .exit)) (now (answers .entry)) (now (answers .exit)) ⌝ }
+pub extern "C" fn bk_sheet_replay(sheet: &mut [u32], calls: &[u32], answers: &mut [u32]) -> u64
+    ensures answer { λ r. ⌜ r ≡ packed (result (replayVerdict (length (now (sheet .entry))) (now (calls .entry)) (length (now (answers .entry)))) (lowWord (answerCount (now (calls .entry))))) ⌝ }
+    ensures words { λ _. ⌜ ReplayLeaves (replayVerdict (length (now (sheet .entry))) (now (calls .entry)) (length (now (answers .entry))))
+        (callsTo (callCount (now (calls .entry))) (now (calls .entry))) (now (sheet .entry)) (now (sheet .exit)) (now (answers .entry)) (now (answers .exit)) ⌝ }
 {
-    pack(calls::replay(sheet, lent, w, answers))
+    pack(calls::replay(sheet, calls, answers))
 }
 
 // The listing of a job file. The answer is its number of bytes.

@@ -132,6 +132,11 @@ fn say_extend(sheet: &mut [u32], w: u32) {
     say_words(answer, sheet);
 }
 
+fn say_correct(sheet: &mut [u32], j: u32, t: u32, entry: u32) {
+    let answer = correct::correct(sheet, j, t, entry);
+    say_words(answer, sheet);
+}
+
 fn series_examples() {
     let g = [1u32, 2, 3];
     let h = [4u32, 5, 6];
@@ -285,23 +290,93 @@ fn job_sheet() {
     say_extend(&mut s, 3);
 }
 
-// The same sheet, worked on by a list of calls: accepted, too few words lent, accepted, behind, beyond.
+// The same sheet, corrected in column 1 before it has that term, after it, and back again: to Y² − 1 − 2X, to Y² − 1 − X. Column 2 is corrected while it has two
+// terms, which leaves them. Column 0, column 3, row 2 and the number 7 are refused, and 7 in row 2 for the row.
+fn job_correct() {
+    let f = [6u32, 6, 0, 0, 0, 0, 1, 0, 0];
+    let roots = [1u32, 6];
+    let mut s = [99u32; 33];
+    say_open(7, 2, 3, &f, &roots, &mut s);
+    say_correct(&mut s, 0, 1, 5);
+    say_extend(&mut s, 2);
+    say_correct(&mut s, 0, 1, 6);
+    say_correct(&mut s, 1, 2, 3);
+    say_extend(&mut s, 3);
+    say_correct(&mut s, 1, 2, 0);
+    say_correct(&mut s, 0, 1, 5);
+    say_correct(&mut s, 0, 0, 5);
+    say_correct(&mut s, 0, 3, 5);
+    say_correct(&mut s, 2, 1, 7);
+    say_correct(&mut s, 0, 1, 7);
+    s[3] = 2;
+    say_correct(&mut s, 2, 1, 7);
+}
+
+// The same sheet, worked on by a list of calls: accepted, too few words lent, accepted, behind, beyond, corrected, no such entry, too large.
 fn job_calls() {
     let f = [6u32, 6, 0, 0, 0, 0, 1, 0, 0];
     let roots = [1u32, 6];
     let mut s = [99u32; 33];
     say_open(7, 2, 3, &f, &roots, &mut s);
-    let lent = [33u32, 31, 32, 33, 33];
-    let goals = [2u32, 3, 3, 2, 4];
-    let mut answers = [9u32; 11];
-    say_words(calls::replay(&mut s, &lent, &goals, &mut answers), &answers);
+    let mut calls = [
+        33u32,
+        0,
+        2,
+        0,
+        0,
+        31,
+        0,
+        3,
+        0,
+        0,
+        32,
+        0,
+        3,
+        0,
+        0,
+        33,
+        0,
+        2,
+        0,
+        0,
+        33,
+        0,
+        4,
+        0,
+        0,
+        32,
+        1,
+        0,
+        1,
+        5,
+        33,
+        1,
+        2,
+        1,
+        5,
+        33,
+        1,
+        0,
+        1,
+        7,
+    ];
+    let mut answers = [9u32; 17];
+    say_words(calls::replay(&mut s, &calls, &mut answers), &answers);
     say_list(&s);
     say(b"\n");
-    // a call that lends more than there is; no room for the answers
-    let more = [34u32, 31, 32, 33, 33];
-    say_words(calls::replay(&mut s, &more, &goals, &mut answers), &answers);
-    let mut few = [9u32; 9];
-    say_words(calls::replay(&mut s, &lent, &goals, &mut few), &few);
+    let mut few = [9u32; 15];
+    say_words(calls::replay(&mut s, &calls, &mut few), &few);
+    // a call that lends more than there is, one of kind 2, an extend with a word too much, and a list with a word too few
+    calls[0] = 34;
+    say_words(calls::replay(&mut s, &calls, &mut answers), &answers);
+    calls[0] = 33;
+    calls[1] = 2;
+    say_words(calls::replay(&mut s, &calls, &mut answers), &answers);
+    calls[1] = 0;
+    calls[4] = 1;
+    say_words(calls::replay(&mut s, &calls, &mut answers), &answers);
+    calls[4] = 0;
+    say_words(calls::replay(&mut s, &calls[..39], &mut answers), &answers);
 }
 
 // The rows of a factor of power 2 over 5, with 4 terms, passed on where they stand in the sheet: at Y + 3, and times 1 + X. 5 is not below 5; there is no
@@ -462,6 +537,7 @@ fn main() {
     pair_shapes();
     long_pair();
     job_sheet();
+    job_correct();
     job_calls();
     short_row();
     length_refusals();

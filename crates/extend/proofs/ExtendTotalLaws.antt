@@ -1,16 +1,13 @@
 -- For every input extend's contract allows exactly one answer and one content of the slice.
 --   extend-total   so
 --   extend-able    what an accepted extend was lent
---   extend-spoiled, extend-outside, extend-beyond, extend-behind, extend-reached   extend's verdict, case by case
+--   extend-spoiled, extend-judged, extend-outside, extend-behind, extend-reached   extend's verdict, case by case
 -- Assumes nothing.
 use Prim.Native.Nat.{ℕ, _≤_, _<_}
-use native.Mathlib.Omega.{arith}
 use mathlib.Core.Path.{_≡_, refl, _∙_, ap, ap₂}
-use mathlib.Core.Logic.{_⊎_, inl, inr}
-use mathlib.Core.Bool.{Bool, true, false, not, _||_, or-true}
+use mathlib.Core.Bool.{Bool, true, false, not, _||_}
 use mathlib.Core.List.{List, [], _∷_}
 use borrow.Author.Tests.{ltb-false, lt-ltb, le-ltb, not-false}
-use lib.Dec.{ltb}
 use Rattle.numbers.specs.Words.{outside}
 use Rattle.numbers.specs.Refusals.{beyondCheck, behindCheck, judge, refusal}
 use Rattle.numbers.specs.declared.refusal.Verdict.the-variants.{Pass, Refuse}
@@ -23,7 +20,7 @@ use Rattle.sheet.specs.Test.{soundTest}
 use Rattle.sheet.specs.Reading.{soundCheck}
 use Rattle.sheet.proofs.SoundTestLaws.{sound-test}
 use Rattle.extend.specs.Extend.{extendChecks, extendVerdict, ExtendDone, Extended}
-use Rattle.extend.proofs.ExtendingLaws.{extended, extend-done, extend-only}
+use Rattle.extend.proofs.ExtendingLaws.{extend-only, extend-exists}
 
 module _ (old : List ℕ) (w : ℕ) where
   pub record Able : Type 0 where
@@ -44,8 +41,8 @@ module _ (old : List ℕ) (w : ℕ) where
       verdict-one (Extended old w) (extendVerdict old w) w (λ new. ExtendDone old w new) old (λ a new. (λ x. (x .answers, x .leaves), λ e. record { answers = e .0; leaves = e .1 }))
       (λ e.
       let h = extend-able e in
-      let d = extend-done old (h .sound) w (h .low) (h .high) in
-      (extended old (h .sound) w (h .low) (h .high), record { is = d; only = λ new x. extend-only old (h .sound) w new (extended old (h .sound) w (h .low) (h .high)) x d }))
+      let (new, d) = extend-exists old (h .sound) w (h .low) (h .high) in
+      (new, record { is = d; only = λ other x. extend-only old (h .sound) w other new x d }))
 
   -- extend's verdict, case by case
   pub extend-spoiled : ¬ Sound old → extendVerdict old w ≡ Refuse (refusal 13 0)
@@ -57,23 +54,16 @@ module _ (old : List ℕ) (w : ℕ) where
       go false e = take-check (soundCheck old) _ (ap not e)
 
   module _ (h : Sound old) where
-    past-sound : extendVerdict old w ≡ judge (beyondCheck (reach old) w ∷ behindCheck (terms old) w ∷ [])
+    pub extend-judged : extendVerdict old w ≡ judge (beyondCheck (reach old) w ∷ behindCheck (terms old) w ∷ [])
     unfolding extendVerdict
-    past-sound = skip-check (soundCheck old) _ (ap not (sound-test old .1 h))
+    extend-judged = skip-check (soundCheck old) _ (ap not (sound-test old .1 h))
 
     pub extend-outside : outside 1 (reach old) w ≡ true → extendVerdict old w ≡ Refuse (refusal 14 0)
-    extend-outside e = past-sound ∙ take-check (beyondCheck (reach old) w) _ e
-
-    pub extend-beyond : (w ≡ 0) ⊎ (reach old < w) → extendVerdict old w ≡ Refuse (refusal 14 0)
-    extend-beyond u = extend-outside (go u)
-      where
-        go : (w ≡ 0) ⊎ (reach old < w) → outside 1 (reach old) w ≡ true
-        go (inl e) = rw (lt-ltb w 1 (omega arith))
-        go (inr l) = rw (lt-ltb (reach old) w l) (or-true (ltb w 1))
+    extend-outside e = extend-judged ∙ take-check (beyondCheck (reach old) w) _ e
 
     module _ (low : 1 ≤ w) (high : w ≤ reach old) where
       past-range : extendVerdict old w ≡ judge (behindCheck (terms old) w ∷ [])
-      past-range = past-sound ∙ skip-check (beyondCheck (reach old) w) _ (ap₂ _||_ (le-ltb w 1 low) (le-ltb (reach old) w high))
+      past-range = extend-judged ∙ skip-check (beyondCheck (reach old) w) _ (ap₂ _||_ (le-ltb w 1 low) (le-ltb (reach old) w high))
 
       pub extend-behind : w < terms old → extendVerdict old w ≡ Refuse (refusal 15 0)
       extend-behind l = past-range ∙ take-check (behindCheck (terms old) w) [] (lt-ltb w (terms old) l)

@@ -1,3 +1,2 @@
 pub mod ExtendingLaws
 pub mod ExtendTotalLaws
-pub mod StoredLaws

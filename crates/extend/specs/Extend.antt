@@ -1,10 +1,9 @@
 -- What extend answers and leaves.
 --   extendChecks, extendVerdict   the checks, and what they come to
---   InColumns s w i    word i stands in columns k..w − 1 of the factors' rows
 --   ExtendDone         what an accepted call leaves: a sound sheet of w terms; no other word is changed
 --   Extended           extend's answer and the words at exit
 -- Assumes nothing.
-use Prim.Native.Nat.{ℕ, _-_, _≤_, _<_, _%_}
+use Prim.Native.Nat.{ℕ}
 use mathlib.Core.Path.{_≡_}
 use mathlib.Core.Logic.{_≢_}
 use mathlib.Core.List.{List, [], _∷_}
@@ -12,7 +11,7 @@ use lib.ListN.{length}
 use Rattle.numbers.specs.Words.{word}
 use Rattle.numbers.specs.Refusals.{Check, beyondCheck, behindCheck, judge, Outcome, result, Leaves}
 use Rattle.numbers.specs.declared.refusal.Verdict.{Verdict}
-use Rattle.layout.specs.Layout.{degree, width, termsAt, terms, count, reach, factorsFrom, end}
+use Rattle.layout.specs.Layout.{termsAt, terms, reach, InColumns}
 use Rattle.sheet.specs.Sheet.{Sound}
 use Rattle.sheet.specs.Reading.{soundCheck}
 
@@ -22,17 +21,12 @@ extendChecks s w = soundCheck s ∷ beyondCheck (reach s) w ∷ behindCheck (ter
 unfoldable pub extendVerdict : List ℕ → ℕ → Verdict
 extendVerdict s w = judge (extendChecks s w)
 
--- word i stands in columns k..w − 1 of the factors' rows
-abbrev pub InColumns : List ℕ → ℕ → ℕ → Type 0
-InColumns s w i =
-    let first = factorsFrom (degree s) (width s) (count s) in
-    (first ≤ i) × (i < end s) × (terms s ≤ (i - first) % width s) × ((i - first) % width s < w)
-
+-- only header word 3 and columns k..w − 1 of the factors' rows are changed
 pub record ExtendDone (old : List ℕ) (w : ℕ) (new : List ℕ) : Type 0 where
   pub same-length : length new ≡ length old
   pub sound : Sound new
   pub reached : terms new ≡ w
-  pub rest : (i : ℕ) → i ≢ termsAt → ¬ InColumns old w i → word new i ≡ word old i
+  pub rest : (i : ℕ) → i ≢ termsAt → ¬ InColumns old (terms old) w i → word new i ≡ word old i
 
 -- extend: lent `old`, it answers `answer` and leaves `new`
 pub record Extended (old : List ℕ) (w : ℕ) (answer : Outcome ℕ) (new : List ℕ) : Type 0 where

@@ -1,7 +1,6 @@
 // Extending a sheet: its factors to more terms. They are worked out once, to the terms wanted: below the terms there they are compared with those
 // stored, and then all are stored.
-use columns::copy;
-use front::front_fits;
+use front::rows_size;
 use layout::read_header;
 use numbers::judge::outside;
 use numbers::refusal::Answer;
@@ -9,8 +8,9 @@ use numbers::refusal::Verdict;
 use numbers::refusal::refuse;
 use numbers::refusal::refused;
 use sheet::kernel::factors_fit;
+use sheet::kernel::store_rows;
 ghost use mathlib.Core.Path.{_≡_};
-ghost use Prim.Native.Nat.{_*_, _≤_, _<_};
+ghost use Prim.Native.Nat.{_*_, _≤_};
 ghost use lib.ListN.{length};
 ghost use Rattle.numbers.specs.Refusals.{outcome};
 ghost use Rattle.numbers.specs.declared.refusal.Verdict.the-variants.{Pass};
@@ -18,7 +18,6 @@ ghost use Rattle.layout.specs.Layout.{degree, width};
 ghost use Rattle.front.specs.internal.Front.{Front};
 ghost use Rattle.sheet.specs.internal.Stages.{Computed};
 ghost use Rattle.extend.specs.Extend.{Extended, extendVerdict};
-ghost use Rattle.extend.specs.internal.Stored.{Stored};
 
 // The terms to work out of a sheet that has k and can have up to n: w where it can have them, else k.
 fn terms_to(k: usize, n: usize, w: usize) -> usize
@@ -55,17 +54,6 @@ fn check_extend(sheet: &[u32], w: u32, rows: &mut [u32]) -> Verdict
     Verdict::Pass
 }
 
-// The factors' rows, and the terms that they have.
-fn store_rows(w: u32, rows: &[u32], sheet: &mut [u32])
-    requires { ⌜ Front (now sheet) × (length (now rows) ≡ degree (now sheet) * width (now sheet)) ⌝ }
-    ensures { λ _. ⌜ Stored (now (sheet .entry)) w (now (rows .entry)) (now (sheet .exit)) ⌝ }
-{
-    let h = read_header(sheet);
-    let from = layout::factors_from(h.degree, h.width, h.count);
-    copy(rows, &mut sheet[from..]);
-    layout::set_terms(w, sheet);
-}
-
 // For a sheet whose words before the factors' rows fit, with room for these rows.
 fn extend_with(sheet: &mut [u32], w: u32, rows: &mut [u32]) -> Answer
     requires { ⌜ Front (now sheet) × (length (now rows) ≡ degree (now sheet) * width (now sheet)) ⌝ }
@@ -82,11 +70,10 @@ fn extend_with(sheet: &mut [u32], w: u32, rows: &mut [u32]) -> Answer
 pub fn extend(sheet: &mut [u32], w: u32) -> Answer
     ensures { λ r. ⌜ Extended (now (sheet .entry)) w (outcome r) (now (sheet .exit)) ⌝ }
 {
-    if !front_fits(sheet) {
+    let size = rows_size(sheet);
+    if size == 0 {
         return refused(13, 0);
     }
-    let h = read_header(sheet);
-    let size = h.degree * h.width;
     let mut rows = [0u32; layout::FACTORS_ROOM];
     extend_with(sheet, w, &mut rows[..size])
 }

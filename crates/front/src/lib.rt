@@ -15,12 +15,12 @@ use numbers::judge::check_modulus;
 use numbers::limits::LARGEST_DEGREE;
 use numbers::limits::LARGEST_WIDTH;
 use numbers::refusal::Verdict;
-ghost use Prim.Native.Nat.{_+_, _*_, _≤_, _<_};
+ghost use Prim.Native.Nat.{_+_, _*_, _≤_};
 ghost use lib.ListN.{length};
 ghost use Rattle.numbers.specs.internal.Facts.{Decides};
 ghost use Rattle.numbers.specs.Limits.{largestDegree};
 ghost use Rattle.layout.specs.Layout.{degree, polynomialFrom};
-ghost use Rattle.front.specs.internal.Front.{OneTo, HeaderFits, PowersFit, OffsetsFit, Shape, RootsBelow, RootsRise, RowsBelow, PolynomialFits, LengthsFit, Front};
+ghost use Rattle.front.specs.internal.Front.{OneTo, HeaderFits, PowersFit, OffsetsFit, Shape, RootsBelow, RootsRise, RowsBelow, PolynomialFits, LengthsFit, Front, RowsSize};
 
 // Whether n is from 1 to high.
 fn one_to(high: usize, n: usize) -> bool
@@ -204,4 +204,15 @@ pub fn front_fits(s: &[u32]) -> bool
         return false;
     }
     lengths_fit(s)
+}
+
+// The words of the factors' rows where all that stands before them fits, and else 0.
+pub fn rows_size(s: &[u32]) -> usize
+    ensures { λ n. ⌜ RowsSize (now (s .entry)) n ⌝ }
+{
+    if !front_fits(s) {
+        return 0;
+    }
+    let h = read_header(s);
+    h.degree * h.width
 }

@@ -2,10 +2,11 @@
 --   placed-entries     the roots and powers are there
 --   upto-power, each-power, rows-before   the powers up to one, one, and those before it come to at most the degree
 --   lower-within, factors-within   the polynomial's lower rows and the factors' rows end within the slice
+--   entry-within       so does each of their words
 --   lower-long, lower-word   the polynomial's lower rows as they are lent
 --   factor-within      the rows of a factor end within the slice
 --   factor-small       and the products on the way there are small
---   header-polynomial, header-factors, header-end, header-size   the places that a header read by value gives
+--   header-polynomial, header-entry, header-factors, header-end, header-size   the places that a header read by value gives
 --   all-rows-small     a product of rows and columns is small
 --   part-is            the part from there to there is the factor's
 --   count-sum          as many as there are powers is at most their sum
@@ -25,7 +26,7 @@ use Rattle.numbers.proofs.WordsLaws.{word-part}
 use Rattle.numbers.proofs.RefusalsLaws.{few-words}
 use Rattle.rows.proofs.RowsLaws.{row-fits}
 use Rattle.layout.specs.declared.Header.{Header}
-use Rattle.layout.specs.Layout.{degree, width, count, power, polynomial, end, polynomialFrom, factorsFrom, total, factorFrom, factorSize, factorPart}
+use Rattle.layout.specs.Layout.{degree, width, count, power, polynomial, end, polynomialFrom, factorsFrom, total, factorFrom, factorSize, factorPart, entryAt}
 use Rattle.layout.specs.internal.Places.{Placed, HeaderIs}
 
 -- as many as there are numbers, each 1 or more, is at most their sum
@@ -47,6 +48,9 @@ pub record Small (s : List ℕ) (i : ℕ) : Type 0 where
 module _ (s : List ℕ) (h : Header) (e : HeaderIs s h) where
   pub header-polynomial : polynomialFrom (h .degree) (h .count) ≡ polynomialFrom (degree s) (count s)
   header-polynomial = simp (e .degree-is, e .count-is)
+
+  pub header-entry : (j t : ℕ) → polynomialFrom (h .degree) (h .count) + j * h .width + t ≡ entryAt s j t
+  header-entry j t = simp (e .degree-is, e .width-is, e .count-is)
 
   pub header-factors : factorsFrom (h .degree) (h .width) (h .count) ≡ factorsFrom (degree s) (width s) (count s)
   header-factors = simp (e .degree-is, e .width-is, e .count-is)
@@ -72,6 +76,9 @@ module _ (s : List ℕ) (h : Placed s) where
 
   pub lower-within : polynomialFrom (degree s) (count s) + degree s * width s ≤ length s
   lower-within = let l = h .long in omega arith
+
+  pub entry-within : (j : ℕ) → j < degree s → (t : ℕ) → t < width s → entryAt s j t < polynomialFrom (degree s) (count s) + degree s * width s
+  entry-within j l t u = omega (arith, row-fits j (degree s) (width s) l)
 
   -- the polynomial's lower rows as they are lent
   module _ (lower : List ℕ) (e : lower ≡ part s (polynomialFrom (degree s) (count s)) (degree s * width s)) where

@@ -8,8 +8,10 @@
 --   headerOf p D N k r m                           the eleven words of the header
 --   root, power, polynomial, factorRows, factor, end   readers by name
 --   factorFrom, factorSize, factorPart             where the rows of a factor stand, how many words they have, and these words
+--   entryAt s j t                                  where row j, column t of the polynomial stands
+--   InColumns s a b i                              word i stands in columns a..b − 1 of the factors' rows
 -- Assumes nothing.
-use Prim.Native.Nat.{ℕ, _+_, _*_}
+use Prim.Native.Nat.{ℕ, _+_, _-_, _*_, _%_, _≤_, _<_}
 use mathlib.Core.List.{List, [], _∷_}
 use Rattle.algebra.specs.Sums.{sumTo}
 use Rattle.numbers.specs.Words.{word, part}
@@ -94,3 +96,13 @@ factorSize s i = power s i * width s
 
 abbrev pub factorPart : List ℕ → ℕ → List ℕ
 factorPart s i = part s (factorFrom s i) (factorSize s i)
+
+-- where row j, column t of the polynomial stands
+abbrev pub entryAt : List ℕ → ℕ → ℕ → ℕ
+entryAt s j t = polynomialFrom (degree s) (count s) + j * width s + t
+
+-- word i stands in columns a..b − 1 of the factors' rows
+abbrev pub InColumns : List ℕ → (a b i : ℕ) → Type 0
+InColumns s a b i =
+    let first = factorsFrom (degree s) (width s) (count s) in
+    (first ≤ i) × (i < end s) × (a ≤ (i - first) % width s) × ((i - first) % width s < b)

@@ -6,7 +6,7 @@ ghost use lib.ListN.{length, set};
 ghost use Rattle.algebra.specs.Sums.{sumTo};
 ghost use Rattle.numbers.specs.Words.{part};
 ghost use Rattle.numbers.specs.Limits.{largestDegree, largestWidth};
-ghost use Rattle.layout.specs.Layout.{termsAt, degree, width, count, lengthsFrom, rootsFrom, polynomialFrom, factorsFrom, total, root, power, factorFrom, factorPart};
+ghost use Rattle.layout.specs.Layout.{termsAt, degree, width, count, known, lengthsFrom, rootsFrom, polynomialFrom, factorsFrom, total, root, power, factorFrom, factorPart, entryAt};
 ghost use Rattle.layout.specs.internal.Places.{HeaderIs, OffsetsAre, Placed};
 
 pub mod lengths; // the known lengths of rows
@@ -72,6 +72,16 @@ pub fn set_terms(w: u32, s: &mut [u32])
     s[3] = w;
 }
 
+// Row j, column t of the polynomial becomes `entry`.
+pub fn set_entry(j: usize, t: usize, entry: u32, s: &mut [u32])
+    requires { ⌜ Placed (now s) × (j < degree (now s)) × (t < width (now s)) ⌝ }
+    ensures { λ _. ⌜ now (s .exit) ≡ set (now (s .entry)) (entryAt (now (s .entry)) j t) entry ⌝ }
+{
+    let h = read_header(s);
+    let at = polynomial_from(h.degree, h.count) + j * h.width + t;
+    s[at] = entry;
+}
+
 pub fn roots_from(d: usize) -> usize
     requires { ⌜ d ≤ largestDegree ⌝ }
     ensures { λ o. ⌜ o ≡ rootsFrom d ⌝ }
@@ -117,6 +127,14 @@ pub fn power_at(s: &[u32], i: usize) -> u32
 {
     let d = s[1] as usize;
     s[LENGTHS_FROM + d + 2 * i + 1]
+}
+
+// The known length of row j of the polynomial.
+pub fn length_at(s: &[u32], j: usize) -> u32
+    requires { ⌜ Placed (now s) × (j < degree (now s)) ⌝ }
+    ensures { λ n. ⌜ n ≡ known (now (s .entry)) j ⌝ }
+{
+    s[LENGTHS_FROM + j]
 }
 
 // The rows of the factors before factor i: the sum of their powers.

@@ -1,7 +1,7 @@
 -- Refusals by number: how every operation judges what it is given.
 --   refusal n d         the refusal of number n with detail d
 --   Check, check n b d  a row of the table of refusals: number n is given when b holds, with detail d
---   judge checks        the first check of the list that applies: the checks stand in number order, but for 21, which comes after 6
+--   judge checks        the first check of the list that applies: the checks stand in number order, but that 20 comes before 6 and 21 after it
 --   Outcome A           a call is accepted with an A, or refused with number and detail
 --   result v x          the outcome that follows a verdict: a pass is accepted with x
 --   outcome r           number and values for each case of an answer

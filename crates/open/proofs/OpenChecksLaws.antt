@@ -9,7 +9,8 @@
 --   RowsPass, rows-pass, rows-passes   what checks 1 to 7, and 21, let pass, and that they do
 --   other-roots            and so they do with other roots
 --   ListPass, list-pass, list-passes   what checks 1 to 8, and 21, let pass, and that they do
---   whole-rows, whole-list  and so they do with other rows, all of them known, if the top row is right and all are below p
+--   other-rows, other-list  and so they do with other rows and known lengths, if these fit, the top row is right and all are below p
+--   whole-rows, whole-list  which rows do that are all known
 -- Assumes nothing.
 use Prim.Native.Nat.{ℕ, zero, suc, _+_, _-_, _*_, _≤_, _<_}
 use native.Mathlib.Nat.{mod-eq-of-lt}
@@ -22,7 +23,7 @@ use borrow.Author.Tests.{lt-ltb, le-ltb, eq-eqb, ne-eqb, not-false, eqb-true}
 use lib.Dec.{eqb}
 use lib.ListN.{length, take, drop, length-append}
 use lib.Seq.{getD-take, getD-drop}
-use Rattle.numbers.specs.Words.{word, allTo, all, firstLarge, outside, lowWord, rising}
+use Rattle.numbers.specs.Words.{word, tabulate, allTo, all, firstLarge, outside, lowWord, rising}
 use Rattle.numbers.specs.internal.Facts.{AllBelow, Rising}
 use Rattle.numbers.specs.Refusals.{Check, check, judge, refusal, modulusChecks, unreduced, widthCheck}
 use Rattle.numbers.specs.declared.refusal.Verdict.the-variants.{Pass, Refuse}
@@ -229,13 +230,14 @@ list-passes g h =
     ∙ skip-check (rootsCheck g) [] (rw (within 1 (g .D) (length (g .roots)) (h .count-low) (h .count-high)) (ap not (sym (rising-passes (g .roots) (length (g .roots)) (omega arith) (h .up)))))
     ∙ none-judged
 
--- other rows, all of them known
-module _ (g : Given) (rows : List ℕ) (long : length rows ≡ (g .D + 1) * g .N) (below : AllBelow (g .p) rows) (top : (t : ℕ) → t < g .N → rowsAt rows 0 (g .N) (g .D) t ≡ unit t) where
+-- other rows, and other known lengths
+module _ (g : Given) (rows lengths : List ℕ) (long : length rows ≡ (g .D + 1) * g .N) (lengths-long : length lengths ≡ g .D) (below : AllBelow (g .p) rows)
+    (known : (j : ℕ) → j < g .D → KnownTo (g .N) (word lengths j) (rowsAt rows 0 (g .N) j)) (top : (t : ℕ) → t < g .N → rowsAt rows 0 (g .N) (g .D) t ≡ unit t) where
   abbrev f : Given
-  f = wholeOf (g .p) (g .D) (g .N) rows (g .roots)
+  f = givenOf (g .p) (g .D) (g .N) rows lengths (g .roots)
 
-  pub whole-rows : RowsPass g → RowsPass f
-  whole-rows h = record {
+  pub other-rows : RowsPass g → RowsPass f
+  other-rows h = record {
     polynomial = record {
       modulus = h .polynomial .modulus;
       small = h .polynomial .small;
@@ -244,17 +246,35 @@ module _ (g : Given) (rows : List ℕ) (long : length rows ≡ (g .D + 1) * g .N
       width-low = h .polynomial .width-low;
       width-high = h .polynomial .width-high;
       long = long;
-      lengths-long = length-tabulate (g .D) (λ _. g .N);
+      lengths-long = lengths-long;
       rows-below = below;
       roots-below = h .polynomial .roots-below;
     };
-    lengths = λ j l. subst (λ n. KnownTo (g .N) n (rowsAt rows 0 (g .N) j)) (sym (word-tabulate (g .D) (λ _. g .N) j l))
-        (record { low = h .polynomial .width-low; high = omega arith; rest = λ t u v. absurd (let z : ⊥ = omega arith in z) });
+    lengths = known;
     top = top;
   }
 
-  pub whole-list : ListPass g → ListPass f
-  whole-list h = record { rows = whole-rows (h .rows); count-low = h .count-low; count-high = h .count-high; up = h .up }
+  pub other-list : ListPass g → ListPass f
+  other-list h = record { rows = other-rows (h .rows); count-low = h .count-low; count-high = h .count-high; up = h .up }
+
+-- other rows, all of them known
+module _ (g : Given) (rows : List ℕ) (long : length rows ≡ (g .D + 1) * g .N) (below : AllBelow (g .p) rows) (top : (t : ℕ) → t < g .N → rowsAt rows 0 (g .N) (g .D) t ≡ unit t) where
+  abbrev whole : List ℕ
+  whole = tabulate (g .D) (λ _. g .N)
+
+  whole-long : length whole ≡ g .D
+  whole-long = length-tabulate (g .D) (λ _. g .N)
+
+  whole-known : 1 ≤ g .N → (j : ℕ) → j < g .D → KnownTo (g .N) (word whole j) (rowsAt rows 0 (g .N) j)
+  whole-known one j l =
+      subst (λ n. KnownTo (g .N) n (rowsAt rows 0 (g .N) j)) (sym (word-tabulate (g .D) (λ _. g .N) j l))
+      (record { low = one; high = omega arith; rest = λ t u v. absurd (let z : ⊥ = omega arith in z) })
+
+  pub whole-rows : RowsPass g → RowsPass (wholeOf (g .p) (g .D) (g .N) rows (g .roots))
+  whole-rows h = other-rows g rows whole long whole-long below (whole-known (h .polynomial .width-low)) top h
+
+  pub whole-list : ListPass g → ListPass (wholeOf (g .p) (g .D) (g .N) rows (g .roots))
+  whole-list h = other-list g rows whole long whole-long below (whole-known (h .rows .polynomial .width-low)) top h
 
 pub list-small : (g : Given) → ListPass g → (g .D ≤ largestDegree) × (g .N ≤ largestWidth) × (length (g .roots) ≤ largestDegree)
 list-small g h = let d = h .rows .polynomial .degree-high in let r = h .count-high in (d, h .rows .polynomial .width-high, omega arith)

@@ -1,36 +1,41 @@
 -- What an accepted open was given, what it writes, and that there is a sheet of it for every k.
 --   SplitPassed, split-passed   what checks 9 and 10 find, after others
 --   Passed, open-passed   what the checks of open find
+--   column-opens    other rows are accepted that pass checks 1 to 8, and 21, and are the same at X = 0
 --   list-ready, open-ready   what the checks of open leave: all that open needs
 --   sheet-exists    for what an accepted open was given there is exactly one sound sheet with k terms, for every k from 1 to the least known length
 --   openWords g     what open writes: with one term factor i is (Y − c_i)^(m_i)
 --   open-done       open's conditions hold of these words over the old ones ..
 --   open-only       .. and of no others
 -- Assumes nothing.
-use Prim.Native.Nat.{ℕ, _+_, _-_, _*_, _≤_, _<_}
+use Prim.Native.Nat.{ℕ, _+_, _*_, _≤_, _<_}
 use native.Mathlib.Omega.{arith}
-use mathlib.Core.Path.{_≡_, refl, sym, _∙_, ap, ap₂, subst}
+use mathlib.Core.Path.{_≡_, refl, sym, _∙_, ap, ap₂, subst, fun-ext}
 use mathlib.Core.Bool.{false}
 use mathlib.Core.Option.{Option, none, some}
 use mathlib.Core.List.{List, [], _++_}
 use borrow.Author.Tests.{ltb-false}
+use lib.Dec.{eqb}
 use lib.ListN.{length, take, drop, take-append-drop, List·getD-append}
 use lib.Seq.{take-length, drop-at}
 use Rattle.numbers.specs.Words.{word, over}
 use Rattle.numbers.specs.Refusals.{Check, check, judge, roomCheck}
 use Rattle.numbers.specs.declared.refusal.Verdict.the-variants.{Pass}
 use Rattle.numbers.proofs.WordsLaws.{true-false, length-over}
+use Rattle.numbers.proofs.TestsLaws.{allTo-ext}
 use Rattle.numbers.proofs.RefusalsLaws.{pass-parts, pass-check, reduced}
+use Rattle.hensel.specs.Factors.{split}
 use Rattle.layout.specs.Layout.{modulus, degree, width, terms, count}
-use Rattle.sheet.specs.Sheet.{Given, given-reach, given-polynomial, Holds}
-use Rattle.open.specs.Open.{powersOf, isNone, needed, openVerdict, OpenDone, polynomialChecks, listChecks, splitChecks}
+use Rattle.sheet.specs.Sheet.{Given, givenOf, given-reach, given-polynomial, Holds}
+use Rattle.open.specs.Open.{choices, find, splitsTest, powersOf, isNone, needed, openVerdict, OpenDone, polynomialChecks, listChecks, splitChecks}
 use Rattle.layout.proofs.RegionsLaws.{in-rows}
 use Rattle.sheet.specs.internal.Content.{Content, size, sheetWords, built, start, Ready}
 use Rattle.sheet.proofs.ContentLaws.{length-sheet}
 use Rattle.sheet.proofs.SheetsLaws.{Good, words-content, words-end, words-sound}
 use Rattle.sheet.proofs.UniqueLaws.{holds-unique}
 use Rattle.sheet.proofs.BuildLaws.{solved, solved-good, start-good}
-use Rattle.open.proofs.OpenChecksLaws.{ListPass, list-pass, open-rows-split}
+use Rattle.open.proofs.OpenChecksLaws.{ListPass, list-pass, list-passes, open-rows-split}
+use Rattle.open.proofs.OpenSplitLaws.{split-some, room-pass}
 use Rattle.open.proofs.OpenLaws.{powers-are, needed-is}
 
 some-of : (o : Option (List ℕ)) → isNone o ≡ false → (l : List ℕ) × (o ≡ some l)
@@ -73,6 +78,27 @@ pub open-passed : (g : Given) (room : ℕ) → openVerdict g room ≡ Pass → P
 open-passed g room pass =
     let s = split-passed (polynomialChecks g ++ listChecks g) g room (sym (open-rows-split g room) ∙ pass) in
     record { list = list-pass g (s .passed); found = s .found; found-is = s .found-is; fits = s .fits }
+
+-- checks 9 and 10 look at column 0 of the rows, the roots, and the sizes
+module _ (g : Given) (rows lengths : List ℕ) where
+  abbrev other : Given
+  other = givenOf (g .p) (g .D) (g .N) rows lengths (g .roots)
+
+  module _ (same : (j : ℕ) → j ≤ g .D → given-polynomial other j 0 ≡ given-polynomial g j 0) where
+    tests-same : (l : List ℕ) → splitsTest other l ≡ splitsTest g l
+    unfolding splitsTest
+    tests-same l = allTo-ext _ _ _ (λ j u. ap (eqb (split (g .p) (length (g .roots)) (word (g .roots)) (word l) j)) (same j (omega arith)))
+
+    powers-same : powersOf other ≡ powersOf g
+    unfolding powersOf
+    powers-same = ap (λ test. find test (choices (length (g .roots)) (g .D))) (fun-ext tests-same)
+
+    pub column-opens : openVerdict g (needed g) ≡ Pass → ListPass other → openVerdict other (needed other) ≡ Pass
+    column-opens pass list =
+        let a = open-passed g (needed g) pass in
+        open-rows-split other (needed other)
+        ∙ split-some (polynomialChecks other ++ listChecks other) (list-passes other list) other (needed other) (a .found) (powers-same ∙ a .found-is)
+        ∙ room-pass (needed other) (needed other) (omega arith)
 
 -- with powers found
 pub list-ready : (g : Given) → ListPass g → (l : List ℕ) → powersOf g ≡ some l → GivenReady g

@@ -20,8 +20,8 @@ use Rattle.rows.proofs.RowsLaws.{line-lt, line-zero}
 use Rattle.rows.proofs.MonicLaws.{monic-low, monic-top, monic-above, by-place}
 use Rattle.hensel.specs.Factors.{product, IsFactors}
 use Rattle.hensel.proofs.FactorsLaws.{product-ext, factors-ext}
-use Rattle.sheet.proofs.ExistsLaws.{factors-splits, solution, solution-lt, solution-is}
-use Rattle.sheet.proofs.SheetsLaws.{factorOf, Good, good-terms}
+use Rattle.sheet.proofs.ExistsLaws.{solution, solution-lt, solution-is}
+use Rattle.sheet.proofs.SheetsLaws.{factorOf, Good}
 
 block-is : (r : ℕ) (m : ℕ → ℕ) (i j : ℕ) → i < r → j < m i → blockOf r m (sumTo i m + j) ≡ i
 unfolding blockOf
@@ -41,20 +41,6 @@ cut-low k b j t l = up-low k (b j) t l
 pub cut-high : (k : ℕ) (b : ℕ → ℕ → ℕ) (j t : ℕ) → k ≤ t → cut k b j t ≡ 0
 unfolding cut
 cut-high k b j t l = up-high k (b j) t l
-
-pub good-ready : (c : Content) → Good c → Ready (c .p) (c .D) (c .N) (c .r) (c .known) (c .root) (c .power) (c .f)
-good-ready c h = record {
-  prime = h .prime;
-  small = h .small;
-  degree-low = h .degree-low;
-  degree-high = h .degree-high;
-  width-low = let a = h .terms-low in let b = good-terms c h in omega arith;
-  width-high = h .width-high;
-  reduced = h .reduced;
-  top = h .top;
-  lengths = h .lengths;
-  splits = factors-splits (c .p) (c .D) (c .k) (c .r) (c .f) (c .root) (c .power) (factorOf c) (h .factors);
-}
 
 module _ (p D N r : ℕ) (known root power : ℕ → ℕ) (f : ℕ → ℕ → ℕ) (h : Ready p D N r known root power f) where
   module _ (k : ℕ) (low : 1 ≤ k) (high : k ≤ least N D known) (a : ℕ → ℕ → ℕ → ℕ) (lt : (i j t : ℕ) → a i j t < p) (is : IsFactors p D k r f root power a) where

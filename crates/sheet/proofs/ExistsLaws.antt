@@ -30,9 +30,6 @@ use Rattle.rows.proofs.MonicLaws.{monic-low, monic-top, monic-above, by-place}
 use Rattle.hensel.specs.Factors.{rootPower, flat, product, split, IsFactors}
 use Rattle.hensel.proofs.FactorsLaws.{product-rem, product-lt, monic-rem, factors-unique, rootsOf, key, roots-rising}
 
-pub factors-splits : (p D k r : ℕ) (f : ℕ → ℕ → ℕ) (root power : ℕ → ℕ) (a : ℕ → ℕ → ℕ → ℕ) → IsFactors p D k r f root power a → Splits p D r f root power
-factors-splits p D k r f root power a h = record { rising = h .rising; reduced = h .reduced; powers = h .powers; degree = h .degree; splits = h .splits }
-
 module _ {p : ℕ} (prime : Prime p) where
   abbrev pos : zero < p
   pos = p-pos prime

@@ -1,5 +1,6 @@
 -- What a sheet holds, of two slices.
---   holds-by        what a sheet holds is read before the factors, but for the terms
+--   holds-rows      what a sheet holds is read before the factors, but for the terms; in place of its rows it may hold others ..
+--   holds-by        .. or the same
 --   whole-reach     where all is known to N there can be N terms
 --   holds-reach     a sheet reaches as far as what it holds is known
 --   holds-ext       slices with the same first T words hold the same
@@ -12,9 +13,9 @@ use mathlib.Core.List.{List}
 use lib.ListN.{length}
 use Rattle.numbers.specs.Words.{word, tabulate, least}
 use Rattle.numbers.proofs.WordsLaws.{word-tabulate, least-le, least-from, least-ext}
-use Rattle.layout.specs.Layout.{degree, width, terms, count, reach, known, lengthsFrom, rootsFrom, polynomialFrom, factorsFrom, end}
-use Rattle.sheet.specs.Sheet.{Sound, Given, wholeOf, given-reach, Holds}
-use Rattle.layout.proofs.RegionsLaws.{in-rows}
+use Rattle.layout.specs.Layout.{rowsAt, degree, width, termsAt, terms, count, reach, known, lengthsFrom, rootsFrom, polynomialFrom, factorsFrom, end, entryAt}
+use Rattle.sheet.specs.Sheet.{Sound, Given, givenOf, wholeOf, given-reach, Holds}
+use Rattle.layout.proofs.RegionsLaws.{in-rows, entry-read}
 use Rattle.sheet.proofs.SheetsLaws.{sound-ext}
 
 pub whole-reach : (p D N : ℕ) (rows roots : List ℕ) → given-reach (wholeOf p D N rows roots) ≡ N
@@ -28,9 +29,10 @@ pub holds-reach : (g : Given) (k : ℕ) (s : List ℕ) → Holds g k s → reach
 holds-reach g k s h =
     h .sound .reached ∙ least-ext (width s) (degree s) (known s) (word (g .lengths)) (h .same-lengths) ∙ ap₂ (λ N D. least N D (word (g .lengths))) (h .same-width) (h .same-degree)
 
--- what a sheet holds is read before the factors, but for the terms
-pub holds-by : (g : Given) (k w : ℕ) (u s : List ℕ) → Holds g k u → Sound s → terms s ≡ w → ((i : ℕ) → i < factorsFrom (degree u) (width u) (count u) → i ≢ 3 → word s i ≡ word u i) → Holds g w s
-holds-by g k w u s h sound e same =
+-- what a sheet holds is read before the factors, but for the terms; in place of its rows it may hold others
+pub holds-rows : (g : Given) (rows : List ℕ) (k w : ℕ) (u s : List ℕ) → Holds g k u → Sound s → terms s ≡ w → ((i : ℕ) → i < polynomialFrom (degree u) (count u) → i ≢ termsAt → word s i ≡ word u i)
+    → ((j : ℕ) → j ≤ degree u → (t : ℕ) → t < width u → word s (entryAt u j t) ≡ rowsAt rows 0 (g .N) j t) → Holds (givenOf (g .p) (g .D) (g .N) rows (g .lengths) (g .roots)) w s
+holds-rows g rows k w u s h sound e same polynomial =
     let eD : degree s ≡ degree u = same 1 (omega arith) (omega arith) in
     let eN : width s ≡ width u = same 2 (omega arith) (omega arith) in
     let er : count s ≡ count u = same 4 (omega arith) (omega arith) in
@@ -42,11 +44,14 @@ holds-by g k w u s h sound e same =
       same-lengths = λ j l. same (lengthsFrom + j) (omega arith) (omega arith) ∙ h .same-lengths j (omega arith);
       same-count = er ∙ h .same-count;
       same-roots = λ i l. ap (λ d. word s (rootsFrom d + 2 * i)) eD ∙ same (rootsFrom (degree u) + 2 * i) (omega arith) (omega arith) ∙ h .same-roots i (omega arith);
-      same-polynomial = λ j l t v.
-          ap₂ (λ r n. word s (polynomialFrom (degree s) r + j * n + t)) er eN ∙ ap (λ d. word s (polynomialFrom d (count u) + j * width u + t)) eD
-          ∙ same _ (omega (arith, in-rows (degree u + 1) (width u) j t (omega arith) (omega arith))) (omega arith) ∙ h .same-polynomial j (omega arith) t (omega arith);
+      same-polynomial = λ j l t v. entry-read u s eD eN er j t ∙ polynomial j (omega arith) t (omega arith);
       same-terms = e;
     }
+
+pub holds-by : (g : Given) (k w : ℕ) (u s : List ℕ) → Holds g k u → Sound s → terms s ≡ w → ((i : ℕ) → i < factorsFrom (degree u) (width u) (count u) → i ≢ termsAt → word s i ≡ word u i) → Holds g w s
+holds-by g k w u s h sound e same =
+    holds-rows g (g .rows) k w u s h sound e (λ i l ne. same i (omega arith) ne)
+    (λ j l t v. same (entryAt u j t) (omega (arith, in-rows (degree u + 1) (width u) j t (omega arith) (omega arith))) (omega arith) ∙ h .same-polynomial j l t v)
 
 pub holds-ext : (g : Given) (k : ℕ) (u s : List ℕ) → Holds g k u → end u ≤ length s → ((i : ℕ) → i < end u → word s i ≡ word u i) → Holds g k s
 holds-ext g k u s h fits same = holds-by g k k u s h (sound-ext u (h .sound) s same fits) (same 3 (omega arith) ∙ h .same-terms) (λ i l ne. same i (omega arith))

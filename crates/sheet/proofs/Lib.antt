@@ -8,3 +8,4 @@ pub mod WorkLaws
 pub mod SoundStagesLaws
 pub mod ReadingLaws
 pub mod HoldsLaws
+pub mod StoredLaws

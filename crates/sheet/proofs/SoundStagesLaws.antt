@@ -1,4 +1,5 @@
 -- A sheet is sound exactly when it passes every stage of the test.
+--   offsets-header   the header of a sheet whose offsets fit
 --   sound-front, sound-split, sound-same   a sound sheet passes each stage: its rows are the factors worked out anew, to as many terms or more
 --   stages-sound, same-decides             a sheet that passes all is sound
 --   answers                                so the answer is soundTest's
@@ -36,7 +37,7 @@ use Rattle.sheet.proofs.SoundTestLaws.{sound-test}
 use Rattle.sheet.proofs.WorkLaws.{unit-later, top-is}
 
 -- the header's eleven words, from the offsets
-offsets-header : (s : List ℕ) → OffsetsFit s → (i : ℕ) → i < lengthsFrom → word s i ≡ word (headerOf (modulus s) (degree s) (width s) (terms s) (count s) (reach s)) i
+pub offsets-header : (s : List ℕ) → OffsetsFit s → (i : ℕ) → i < lengthsFrom → word s i ≡ word (headerOf (modulus s) (degree s) (width s) (terms s) (count s) (reach s)) i
 offsets-header s h zero l = refl
 offsets-header s h (suc zero) l = refl
 offsets-header s h (suc (suc zero)) l = refl

@@ -1,4 +1,5 @@
 -- Definitions that only private contracts cite.
 pub mod Stages
+pub mod Stored
 pub mod Content
 pub mod Shape

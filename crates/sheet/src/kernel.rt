@@ -1,5 +1,5 @@
-// The factors of a sheet, worked out anew, and compared with those stored. These trust their caller: they have a `requires`, and are for the crates of
-// this repository. All are proved for every modulus below 2^24.
+// The factors of a sheet, worked out anew, compared with those stored, and stored. These trust their caller: they have a `requires`, and are for the crates
+// of this repository. All are proved for every modulus below 2^24.
 use columns::copy;
 use columns::load_column;
 use numbers::limits::MOST_ROOTS;
@@ -16,6 +16,7 @@ ghost use Rattle.layout.specs.Layout.{degree, width, terms, count};
 ghost use Rattle.sheet.specs.Sheet.{Sound};
 ghost use Rattle.front.specs.internal.Front.{Front};
 ghost use Rattle.sheet.specs.internal.Stages.{Loaded, Computed, WorkedOut, SameTerms};
+ghost use Rattle.sheet.specs.internal.Stored.{Stored};
 
 // The roots and the powers that the sheet lists.
 fn load_roots(s: &[u32], roots: &mut [u32], powers: &mut [u32])
@@ -49,7 +50,7 @@ fn work_with(
 
 // Whether the sheet's polynomial has factors: whether it is, at X = 0, the product of the powers of Y − c that the sheet lists. If so, `rows` becomes the
 // factors' rows, to w terms.
-fn work_out(s: &[u32], w: usize, rows: &mut [u32]) -> bool
+pub fn work_out(s: &[u32], w: usize, rows: &mut [u32]) -> bool
     requires { ⌜ Front (now s) × (1 ≤ w) × (w ≤ width (now s)) × (length (now rows) ≡ degree (now s) * width (now s)) ⌝ }
     ensures { λ found. ⌜ WorkedOut (now (s .entry)) w found (now (rows .exit)) ⌝ }
 {
@@ -124,4 +125,15 @@ pub fn factors_fit(s: &[u32], to: usize, rows: &mut [u32]) -> bool
     }
     let h = layout::read_header(s);
     same_terms(h.width, h.terms, h.degree, layout::factors_part(s), rows)
+}
+
+// The factors' rows, and the terms that they have.
+pub fn store_rows(w: u32, rows: &[u32], sheet: &mut [u32])
+    requires { ⌜ Front (now sheet) × (length (now rows) ≡ degree (now sheet) * width (now sheet)) ⌝ }
+    ensures { λ _. ⌜ Stored (now (sheet .entry)) w (now (rows .entry)) (now (sheet .exit)) ⌝ }
+{
+    let h = layout::read_header(sheet);
+    let from = layout::factors_from(h.degree, h.width, h.count);
+    copy(rows, &mut sheet[from..]);
+    layout::set_terms(w, sheet);
 }

@@ -1,6 +1,6 @@
 // The factor sheet: a polynomial, its roots at X = 0 with their powers, and its Hensel factors to k terms, in words that leave the house and come
 // back. Every call judges the words that it is lent; a refusal changes none.
-use front::front_fits;
+use front::rows_size;
 use numbers::refusal::Answer;
 use numbers::refusal::Refusal;
 use numbers::refusal::Verdict;
@@ -33,13 +33,13 @@ pub enum FactorAnswer {
 pub fn test(sheet: &[u32]) -> bool
     ensures { λ r. ⌜ r ≡ soundTest (now (sheet .entry)) ⌝ }
 {
-    if !front_fits(sheet) {
+    let size = rows_size(sheet);
+    if size == 0 {
         return false;
     }
-    let h = layout::read_header(sheet);
-    let size = h.degree * h.width;
+    let k = layout::read_header(sheet).terms;
     let mut rows = [0u32; layout::FACTORS_ROOM];
-    kernel::factors_fit(sheet, h.terms, &mut rows[..size])
+    kernel::factors_fit(sheet, k, &mut rows[..size])
 }
 
 // Refusals 13 and 16, which every way to read a factor begins with.

@@ -24,6 +24,9 @@ use Rattle.open.specs.Open.{upwards, choices, find, splitsTest, powersOf, neede
 use Rattle.roots.specs.Roots.{value}
 use Rattle.open.specs.Find.{findVerdict}
 use Rattle.extend.specs.Extend.{extendVerdict}
+use Rattle.correct.specs.Correct.{isEntry, correctVerdict}
+use Rattle.calls.specs.Calls.{countAnswer, countAnswers, countEnd}
+use Rattle.calls.specs.Replay.{callFits, callsTo, replayVerdict}
 use Rattle.text.specs.Decimal.{digits, digitsWithin}
 use Rattle.text.specs.Text.{listingText, headLine, rootLine, rowLine, rowLines, factorText, joinTo, numbersText, moreNumbers}
 use Rattle.job.specs.Job.{number, isWide, fieldsFrom, fieldSize, field}
@@ -43,5 +46,5 @@ out-of-range : judge (modulusChecks 16777216) ≡ Refuse (refusal 1 0)
 out-of-range = take-check (check 1 (outside 2 largestModulus 16777216) 0) _ refl
 
 pub starred : Starred
-unfolding judge leastDivisor inverseOf firstWhere firstNonzero firstLarge allTo all sumTo rowsOf mul monic orderOf rowsBelow productTest pairTest held linePower product primeTest factorsTest headerTest bodyTest soundTest upwards choices find splitsTest powersOf needed openVerdict extendVerdict number isWide fieldsFrom fieldSize field jobGiven listVerdict listingText headLine rootLine rowLine rowLines factorText joinTo tabulate least knownTo rowsKnown sums productColumn series.product quotientColumn quotient quotientWords digits digitsWithin numbersText moreNumbers value allWhere findVerdict
-starred = (refl, refl, refl, refl, refl, refl, refl, refl, refl, refl, refl, refl, refl, refl, refl, refl, refl, refl, refl, refl, refl, refl, refl, refl, refl, refl, refl, largest-prime, largest-composite, out-of-range, refl, refl, refl, refl, refl, refl, refl, refl, refl, refl, refl, refl, refl, refl, refl, refl, refl, refl, refl, refl, refl, refl, refl, refl, refl, refl, refl, refl, refl, refl, refl, refl, refl, refl)
+unfolding judge leastDivisor inverseOf firstWhere firstNonzero firstLarge allTo all sumTo rowsOf mul monic orderOf rowsBelow productTest pairTest held linePower product primeTest factorsTest headerTest bodyTest soundTest upwards choices find splitsTest powersOf needed openVerdict extendVerdict number isWide fieldsFrom fieldSize field jobGiven listVerdict listingText headLine rootLine rowLine rowLines factorText joinTo tabulate least knownTo rowsKnown sums productColumn series.product quotientColumn quotient quotientWords digits digitsWithin numbersText moreNumbers value allWhere findVerdict isEntry correctVerdict callFits callsTo replayVerdict countAnswer countAnswers countEnd
+starred = (refl, refl, refl, refl, refl, refl, refl, refl, refl, refl, refl, refl, refl, refl, refl, refl, refl, refl, refl, refl, refl, refl, refl, refl, refl, refl, refl, largest-prime, largest-composite, out-of-range, refl, refl, refl, refl, refl, refl, refl, refl, refl, refl, refl, refl, refl, refl, refl, refl, refl, refl, refl, refl, refl, refl, refl, refl, refl, refl, refl, refl, refl, refl, refl, refl, refl, refl, refl, refl, refl, refl, refl, refl, refl, refl, refl, refl, refl, refl, refl, refl, refl)

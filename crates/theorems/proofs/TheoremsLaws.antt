@@ -34,7 +34,10 @@ use Rattle.open.proofs.OpeningLaws.{open-ready, sheet-exists}
 use Rattle.open.proofs.OpenTotalLaws.{opened-one}
 use Rattle.open.proofs.FindLaws.{nine, found-opened, opened-found, found-one}
 use Rattle.extend.proofs.ExtendTotalLaws.{extended-one}
-use Rattle.calls.proofs.Demand3Laws.{demand3}
+use Rattle.correct.proofs.CorrectTotalLaws.{corrected-one}
+use Rattle.calls.specs.Calls.{counting}
+use Rattle.calls.proofs.Demand3Laws.{demand3, calls-same}
+use Rattle.calls.proofs.CorrectedLaws.{correct-afresh}
 use Rattle.calls.proofs.OneLaws.{run-one, count-largest, replayed-one}
 use Rattle.calls.proofs.FillingLaws.{filled-opens, filled-same, filled-own, filled-apart}
 use Rattle.job.specs.Limits.{jobRoom}
@@ -59,6 +62,8 @@ sheet-theorems = record {
       (one .words, record { is = (one .holds, one .long); only = λ s x. sym (take-all (needed g) s (omega (arith, x .1))) ∙ one .only s (x .0) });
   open-one = opened-one;
   extend-one = extended-one;
+  correct-one = corrected-one;
+  correct-afresh = correct-afresh;
 }
 
 find-theorems : FindTheorems
@@ -79,7 +84,8 @@ call-theorems : CallTheorems
 call-theorems = record {
   run-one = run-one;
   demand3 = demand3;
-  largest = λ T most cs. count-largest T most 1 cs;
+  calls-same = calls-same;
+  largest = λ T g cs. count-largest T (counting g) cs;
   replay-one = replayed-one;
   listing-one = one-listing;
   listed-only = listed-only;

@@ -1,4 +1,4 @@
--- The starred examples of document 01 with the moduli and the wide file of F-2, the quotients of F-5, the lengths of F-9 and the roots of F-3, as one list: closed terms of the definitions that
+-- The starred examples of document 01 with the moduli and the wide file of F-2, the quotients of F-5, the lengths of F-9, the roots of F-3 and the correction of F-6, as one list: closed terms of the definitions that
 -- the contracts cite. `starred` in proofs/StarredLaws is its proof: by evaluation, but for the moduli near 2^24, where laws say how little has to be
 -- evaluated.
 --   Starred    the list
@@ -8,7 +8,7 @@ use mathlib.Core.Path.{_≡_}
 use mathlib.Core.Bool.{true}
 use mathlib.Core.List.{List, [], _∷_, _++_}
 use mathlib.Core.Option.{some}
-use Rattle.numbers.specs.Refusals.{judge, refusal, modulusChecks}
+use Rattle.numbers.specs.Refusals.{judge, refusal, accepted, refused, modulusChecks}
 use Rattle.numbers.specs.declared.refusal.Verdict.the-variants.{Pass, Refuse}
 use Rattle.series.specs.Series.{knownChecks, sums, product}
 use Rattle.series.specs.Quotient.{leastPower, quotientChecks, quotientWords}
@@ -20,6 +20,9 @@ use Rattle.sheet.specs.Sheet.{Given, givenOf, wholeOf, given-reach}
 use Rattle.open.specs.Open.{powersOf, needed, openVerdict}
 use Rattle.open.specs.Find.{withRoots, findVerdict}
 use Rattle.extend.specs.Extend.{extendVerdict}
+use Rattle.correct.specs.Correct.{correctVerdict, corrected}
+use Rattle.calls.specs.Calls.{counting, countAnswers, countEnd}
+use Rattle.calls.specs.Replay.{callsTo, replayVerdict}
 use Rattle.text.specs.Text.{bytes, listingText}
 use Rattle.listing.specs.Listing.{jobGiven, rooted, listVerdict}
 
@@ -35,6 +38,24 @@ known-sheet m k factors = 7 ∷ 2 ∷ 3 ∷ k ∷ 2 ∷ 13 ∷ 17 ∷ 26 ∷ 32 
 
 abbrev job-sheet : ℕ → List ℕ → List ℕ
 job-sheet = known-sheet 3
+
+-- Y² − 1 − 2X over 7: the job with row 0, column 1 corrected to 5; its sheet with three terms
+abbrev corrected-job : Given
+corrected-job = wholeOf 7 2 3 (6 ∷ 5 ∷ 0 ∷ 0 ∷ 0 ∷ 0 ∷ 1 ∷ 0 ∷ 0 ∷ []) (1 ∷ 6 ∷ [])
+
+abbrev corrected-sheet : List ℕ
+corrected-sheet = 7 ∷ 2 ∷ 3 ∷ 3 ∷ 2 ∷ 13 ∷ 17 ∷ 26 ∷ 32 ∷ 32 ∷ 3 ∷ 3 ∷ 3 ∷ 1 ∷ 1 ∷ 6 ∷ 1 ∷ 6 ∷ 5 ∷ 0 ∷ 0 ∷ 0 ∷ 0 ∷ 1 ∷ 0 ∷ 0 ∷ 6 ∷ 6 ∷ 4 ∷ 1 ∷ 1 ∷ 3 ∷ []
+
+-- a list of calls on the job's sheet, as the words that `replay` is given: to two terms; the correction, before and after a call with a word too few; an entry
+-- that is none; a number that is none; to three terms
+abbrev job-calls : List ℕ
+job-calls =
+    32 ∷ 0 ∷ 2 ∷ 0 ∷ 0 ∷ []
+    ++ (31 ∷ 1 ∷ 0 ∷ 1 ∷ 5 ∷ []
+    ++ (32 ∷ 1 ∷ 0 ∷ 1 ∷ 5 ∷ []
+    ++ (32 ∷ 1 ∷ 2 ∷ 1 ∷ 7 ∷ []
+    ++ (32 ∷ 1 ∷ 0 ∷ 1 ∷ 7 ∷ []
+    ++ (32 ∷ 0 ∷ 3 ∷ 0 ∷ 0 ∷ [])))))
 
 -- Y³ + Y² + XY + X over 2, two terms
 abbrev double-rows : List ℕ
@@ -165,3 +186,22 @@ Starred =
     -- p = 7: Y² + 1 has no root, and Y⁴ − 1 has two of power 1: 9, whatever room there is
     × (findVerdict (wholeOf 7 2 1 (1 ∷ 0 ∷ 1 ∷ []) []) 0 ≡ Refuse (refusal 9 0))
     × (findVerdict (wholeOf 7 4 1 (6 ∷ 0 ∷ 0 ∷ 0 ∷ 1 ∷ []) []) 100 ≡ Refuse (refusal 9 0))
+    -- row 0, column 1 of the job can be corrected to 5, and then the factors have the rows 6 6 4 and 1 1 3; column 0, column 3 and row 2 can't be; 7 is no entry
+    × (correctVerdict (job-sheet 3 (6 ∷ 3 ∷ 1 ∷ 1 ∷ 4 ∷ 6 ∷ [])) 0 1 5 ≡ Pass)
+    × (corrected job 0 1 5 ≡ corrected-job)
+    × (soundTest corrected-sheet ≡ true)
+    × (correctVerdict (job-sheet 3 (6 ∷ 3 ∷ 1 ∷ 1 ∷ 4 ∷ 6 ∷ [])) 0 0 5 ≡ Refuse (refusal 20 0))
+    × (correctVerdict (job-sheet 3 (6 ∷ 3 ∷ 1 ∷ 1 ∷ 4 ∷ 6 ∷ [])) 0 3 5 ≡ Refuse (refusal 20 0))
+    × (correctVerdict (job-sheet 3 (6 ∷ 3 ∷ 1 ∷ 1 ∷ 4 ∷ 6 ∷ [])) 2 1 7 ≡ Refuse (refusal 20 0))
+    × (correctVerdict (job-sheet 3 (6 ∷ 3 ∷ 1 ∷ 1 ∷ 4 ∷ 6 ∷ [])) 0 1 7 ≡ Refuse (refusal 6 0))
+    -- with row 0 known to two terms there is no entry in column 2
+    × (correctVerdict (known-sheet 2 2 (6 ∷ 3 ∷ 0 ∷ 1 ∷ 4 ∷ 0 ∷ [])) 0 2 0 ≡ Refuse (refusal 20 0))
+    -- the plain count of a list of calls; it ends at three terms of the corrected polynomial
+    × (replayVerdict 32 job-calls 12 ≡ Pass)
+    × (countAnswers 32 (counting job) (callsTo 6 job-calls) ≡ accepted 2 ∷ refused 13 0 ∷ accepted 2 ∷ refused 20 0 ∷ refused 6 0 ∷ accepted 3 ∷ [])
+    × (countEnd 32 (counting job) (callsTo 6 job-calls) .terms ≡ 3)
+    × (countEnd 32 (counting job) (callsTo 6 job-calls) .given ≡ corrected-job)
+    -- a word too few, a kind that is none, and an extend with more to say than w: 5
+    × (replayVerdict 32 (32 ∷ 0 ∷ 2 ∷ 0 ∷ []) 12 ≡ Refuse (refusal 5 0))
+    × (replayVerdict 32 (32 ∷ 2 ∷ 2 ∷ 0 ∷ 0 ∷ []) 12 ≡ Refuse (refusal 5 0))
+    × (replayVerdict 32 (32 ∷ 0 ∷ 2 ∷ 0 ∷ 1 ∷ []) 12 ≡ Refuse (refusal 5 0))

@@ -26,7 +26,9 @@ use Rattle.sheet.specs.Test.{soundTest}
 use Rattle.open.specs.Open.{needed, polynomialChecks, topChecks, openVerdict, Opened}
 use Rattle.open.specs.Find.{withRoots, findVerdict, Found, IsProduct}
 use Rattle.extend.specs.Extend.{Extended}
-use Rattle.calls.specs.Calls.{Call, Run, Lendable, countAnswers, countTerms, largestAccepted, Demand3}
+use Rattle.correct.specs.Correct.{Corrected, corrected}
+use Rattle.calls.specs.Calls.{Call, Run, Lendable, counting, countAnswers, countEnd, largestAccepted, History, worked, held, Demand3}
+use Rattle.calls.specs.Afresh.{Afresh}
 use Rattle.calls.specs.Replay.{Replayed}
 use Rattle.calls.specs.Filling.{filled, Fills, SameFilled, OwnFilled, ApartFilled}
 use Rattle.job.specs.Limits.{jobRoom}
@@ -57,6 +59,11 @@ pub record SheetTheorems : Type 0 where
   -- Open and extend have exactly one outcome on every input.
   pub open-one : (g : Given) (old : List ℕ) → OneOutcome (Opened g old)
   pub extend-one : (old : List ℕ) (w : ℕ) → OneOutcome (Extended old w)
+  -- So has correct ..
+  pub correct-one : (old : List ℕ) (j t entry : ℕ) → OneOutcome (Corrected old j t entry)
+  -- .. and the sheet that it leaves is the one of the corrected polynomial, which open accepts, with as many terms as before; their number is the answer.
+  pub correct-afresh : (g : Given) → openVerdict g (needed g) ≡ Pass → (k : ℕ) (old : List ℕ) → Holds g k old → (j t entry d : ℕ) (new : List ℕ)
+      → Corrected old j t entry (accepted d) new → (d ≡ k) × Afresh (corrected g j t entry) k new
 
 -- Opening without a list of roots.
 pub record FindTheorems : Type 0 where
@@ -78,12 +85,14 @@ pub record FindTheorems : Type 0 where
 pub record CallTheorems : Type 0 where
   -- Every list of calls on every slice has exactly one run, where no call lends more words than there are.
   pub run-one : (s : List ℕ) (cs : List Call) → Lendable (length s) cs → One (λ (x : List (Outcome ℕ) × List ℕ). Run s cs (x .0) (x .1))
-  -- Demand 3: answers are the plain count's, the words are the one sound sheet's, and factor lists agree exactly where the polynomials do.
+  -- Demand 3: answers are the plain count's, the words are the one sound sheet's, and factor lists agree exactly where the polynomials now held do.
   pub demand3 : Demand3
-  -- K is the largest accepted w, or 1.
-  pub largest : (T most : ℕ) (cs : List Call) → countTerms T most 1 cs ≡ largestAccepted 1 (countAnswers T most 1 cs)
+  -- Lists of calls on one opened sheet that end at the same count and the same polynomial leave the same words, to the last.
+  pub calls-same : (x y : History) → x .start ≡ y .start → held x ≡ held y → worked x ≡ worked y → x .last ≡ y .last
+  -- K is the largest number accepted, or 1.
+  pub largest : (T : ℕ) (g : Given) (cs : List Call) → countEnd T (counting g) cs .terms ≡ largestAccepted 1 (countAnswers T (counting g) cs)
   -- `replay` has exactly one outcome on every input.
-  pub replay-one : (lent goals start old : List ℕ) → One (λ (x : Outcome ℕ × List ℕ × List ℕ). Replayed lent goals start old (x .0) (x .1) (x .2))
+  pub replay-one : (calls start old : List ℕ) → One (λ (x : Outcome ℕ × List ℕ × List ℕ). Replayed calls start old (x .0) (x .1) (x .2))
   -- A job comes to exactly one text, and listing it has one outcome only.
   pub listing-one : (job : List ℕ) → One (IsListing job)
   pub listed-only : (job old : List ℕ) (a a′ : Outcome ℕ) (new new′ : List ℕ) → Listed job old a new → Listed job old a′ new′ → (a ≡ a′) × (new ≡ new′)

@@ -10,7 +10,7 @@ use Rattle.calls.proofs.replay.Statement.{statement}
 use Rattle.calls.proofs.replay.Tie as tie
 
 -- the checks have passed
-passed : (b : tie.After-enum-told) → let a = b .before .before .before .before .before .before .before .args in replayVerdict (length (a .sheet .now)) (a .lent .now) (a .goals .now) (length (a .answers .now)) ≡ Pass
+passed : (b : tie.After-enum-told) → let a = b .before .before .before .before .before .before .args in replayVerdict (length (a .sheet .now)) (a .calls .now) (length (a .answers .now)) ≡ Pass
 passed b = sym (b .before .before .check-calls .ensures) ∙ b .enum-told .given .1
 
 check-calls-requires : tie.Need-check-calls-requires
@@ -20,16 +20,16 @@ enum-known-r : tie.Need-enum-known-r
 enum-known-r c = search needs
 
 returns : tie.Need-returns
-returns c = let a = c .before .before .before .before .before .before .before .before .args in replay-refused (a .lent .now) (a .goals .now) (a .sheet .now) (a .answers .now) _ (sym (c .before .before .before .check-calls .ensures) ∙ c .before .r .given .1)
+returns c = let a = c .before .before .before .before .before .before .before .args in replay-refused (a .calls .now) (a .sheet .now) (a .answers .now) _ (sym (c .before .before .before .check-calls .ensures) ∙ c .before .r .given .1)
 
 enum-told : tie.Need-enum-told
 enum-told c = search needs
 
 make-calls-requires : tie.Need-make-calls-requires
 make-calls-requires c κs =
-    let a = c .before .before .before .before .before .before .before .before .before .args in
-    let f = calls-lent (length (a .sheet .now)) (a .lent .now) (a .goals .now) (length (a .answers .now)) (passed (c .before .before)) in
-    (f .same, f .roomy, f .lends)
+    let a = c .before .before .before .before .before .before .before .before .args in
+    let f = calls-lent (length (a .sheet .now)) (a .calls .now) (length (a .answers .now)) (passed (c .before .before)) in
+    (f .roomy, f .lends)
 
 twice-requires : tie.Need-twice-requires
 twice-requires c κs = search needs
@@ -42,8 +42,8 @@ same-length-2 c = search needs
 
 returns-2 : tie.Need-returns-2
 returns-2 c =
-    let a = c .before .before .before .before .before .before .before .before .before .before .before .before .before .before .before .args in
-    replay-done (a .lent .now) (a .goals .now) (a .sheet .now) _ (a .answers .now) _ _ (passed (c .before .before .before .before .before .before .before .before)) (c .twice .ensures) (c .before .before .before .before .before .make-calls .ensures)
+    let a = c .before .before .before .before .before .before .before .before .before .before .before .before .before .before .args in
+    replay-done (a .calls .now) (a .sheet .now) _ (a .answers .now) _ _ (passed (c .before .before .before .before .before .before .before .before)) (c .twice .ensures) (c .before .before .before .before .before .make-calls .ensures)
 
 pub replay-spec : {M : Type 1} → statement M
 replay-spec =

@@ -17,9 +17,9 @@ putAnswer (accepted w) i s = set (set s (2 * i) 0) (2 * i + 1) w
 putAnswer (refused n d) i s = set (set s (2 * i) n) (2 * i + 1) d
 
 -- the first n calls are made
-pub record CallsMade (n : ℕ) (lent goals start last old new : List ℕ) : Type 0 where
+pub record CallsMade (n : ℕ) (calls start last old new : List ℕ) : Type 0 where
   pub answers : List (Outcome ℕ)
-  pub run : Run start (callsTo n lent goals) answers last
+  pub run : Run start (callsTo n calls) answers last
   pub words : new ≡ over (answerWords answers) old
   pub size : length (answerWords answers) ≡ 2 * n
   pub long : length new ≡ length old

@@ -5,7 +5,7 @@ use Rattle.numbers.specs.declared.refusal.Verdict.the-variants.{Pass}
 use Rattle.numbers.proofs.RefusalsLaws.{leave-refused, leave-done}
 use Rattle.extend.specs.Extend.{extendVerdict}
 use Rattle.extend.proofs.ExtendTotalLaws.{extend-able}
-use Rattle.extend.proofs.StoredLaws.{stored-done}
+use Rattle.extend.proofs.ExtendingLaws.{stored-done}
 use borrow.Author.Needs.{needs}
 use Rattle.extend.proofs.extend_with.Statement.{statement}
 use Rattle.extend.proofs.extend_with.Tie as tie
@@ -49,7 +49,7 @@ returns-2 c =
     let s = a .sheet .now in
     let m = passed b in
     let h = extend-able s (a .w) m in
-    let done = stored-done s (h .sound) (b .before .before .before .before .before .before .before .before .before .pre .0) (a .w) (h .low) (h .high) _ (b .before .before .before .before .check-extend .ensures .1 (b .enum-told .given .1)) _ (c .before .before .store-rows .ensures) in
+    let done = stored-done s (h .sound) (a .w) (h .low) (h .high) _ (b .before .before .before .before .check-extend .ensures .1 (b .enum-told .given .1)) _ (c .before .before .store-rows .ensures) in
     let r = leave-done _ _ _ s _ m refl done in
     record { answers = r .0; leaves = r .1 }
 

@@ -10,9 +10,11 @@
 --   PolynomialFits     the polynomial's words are below p, and its top row is 1, 0, 0, ..
 --   LengthsFit         each row is known to its length, and word 10 is the least length
 --   Front              all of these: what stands before the factors' rows fits
+--   RowsSize s n       n is the number of words of the factors' rows where it does, and else 0
 -- Assumes nothing.
 use Prim.Native.Nat.{ℕ, _+_, _*_, _≤_, _<_}
 use mathlib.Core.Path.{_≡_}
+use mathlib.Core.Logic.{_≢_}
 use mathlib.Core.List.{List}
 use lib.ListN.{length}
 use Rattle.algebra.specs.Sums.{sumTo}
@@ -84,3 +86,9 @@ pub record Front (s : List ℕ) : Type 0 where
   pub rise : RootsRise s (count s)
   pub words : PolynomialFits s
   pub lengths : LengthsFit s
+
+pub record RowsSize (s : List ℕ) (n : ℕ) : Type 0 where
+  pub none : n ≡ 0 → Front s → ⊥
+  pub front : n ≢ 0 → Front s
+  pub size : n ≢ 0 → n ≡ degree s * width s
+  pub room : n ≤ 8192

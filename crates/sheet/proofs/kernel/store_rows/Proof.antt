@@ -1,4 +1,4 @@
--- `extend::store_rows` meets its contract.
+-- `sheet::kernel::store_rows` meets its contract.
 -- Assumes nothing.
 use mathlib.Core.Path.{_∙_}
 use Prim.Native.Nat.{_+_, _≤_}
@@ -6,10 +6,10 @@ use native.Mathlib.Omega.{arith}
 use lib.ListN.{length}
 use Rattle.layout.proofs.PlacesLaws.{factors-within, header-factors}
 use Rattle.front.proofs.FrontLaws.{shape-placed}
-use Rattle.extend.proofs.StoredLaws.{set-stored}
+use Rattle.sheet.proofs.StoredLaws.{set-stored}
 use borrow.Author.Needs.{needs}
-use Rattle.extend.proofs.store_rows.Statement.{statement}
-use Rattle.extend.proofs.store_rows.Tie as tie
+use Rattle.sheet.proofs.kernel.store_rows.Statement.{statement}
+use Rattle.sheet.proofs.kernel.store_rows.Tie as tie
 
 read-header-requires : tie.Need-read-header-requires
 read-header-requires c κs = search needs

@@ -1,0 +1,2 @@
+pub mod CorrectingLaws
+pub mod CorrectTotalLaws
