@@ -25,13 +25,13 @@
 extern "C" {
 #endif
 
-/* Why a call is refused. Checks run in the order of the numbers, but 21 comes right after 6; where a call is lent a sheet and takes from it what it needs, 13
- * comes first, and 20 before 6. 17 to 19 are not in use. */
+/* Why a call is refused. Checks run in the order of the numbers, but 21 comes right after 6, and 24 right after 3; where a call is lent a sheet and takes from it
+ * what it needs, 13 comes first, and 20 before 6. 17 to 19, 22 and 23 are not in use. */
 enum bk_refusal {
     BK_ACCEPTED = 0,
     BK_MODULUS_RANGE = 1, /* p is below 2 or above 16,777,215 */
     BK_COMPOSITE = 2,     /* p is composite; detail: its least divisor above 1 */
-    BK_DEGREE = 3,        /* a degree bound, or a product's, is above 32; for opening a sheet also 0 */
+    BK_DEGREE = 3,        /* a degree bound, or a product's, is above 32; for opening a sheet and for counts also 0 */
     BK_TERMS = 4,         /* n is outside 1..256 */
     BK_ROWS = 5,          /* an input has more or fewer words than d and n give it, or there are not d lengths; replay: the words are no list of calls that fit */
     BK_UNREDUCED = 6,     /* some coefficient, root or number is not below p; detail: the first one's position from 0, inputs counted on in the order given, and 0 for a corrected entry */
@@ -46,7 +46,8 @@ enum bk_refusal {
     BK_BEHIND = 15,       /* the terms wanted are fewer than those there */
     BK_NO_FACTOR = 16,    /* there is no factor of this index */
     BK_ENTRY = 20,        /* there is no such entry to correct */
-    BK_KNOWN_TERMS = 21   /* a count of known terms or a row's known length is outside 1..n, or a word past it is not 0 */
+    BK_KNOWN_TERMS = 21,  /* a count of known terms or a row's known length is outside 1..n, or a word past it is not 0 */
+    BK_MANY = 24          /* counts: there are more than 65,536 polynomials */
 };
 
 static inline uint32_t bk_refused(uint64_t result) { return (uint32_t)(result >> 32); } /* 0 where the call was accepted */
@@ -109,6 +110,12 @@ uint64_t bk_sheet_factor_shift(const uint32_t *sheet, size_t sheet_count, uint32
  * j, t and the entry. It writes two words for each call: 0 and the answer, or the refusal's number and detail. Refused by 5: the words are no multiple of five, or
  * some call lends more words than there are, is of neither kind, or is an extend whose last two words are not both 0. */
 uint64_t bk_sheet_replay(uint32_t *sheet, size_t sheet_count, const uint32_t *calls, size_t calls_count, uint32_t *answers, size_t answers_count);
+
+/* How often it splits. Of the p^d monic polynomials in Y of degree d over F_p, word 0 counts those that are no product of lines Y - c, and word r, from 1 to d,
+ * those that are one and have exactly r distinct roots. All words together are p^d; the answer is their number, d + 1. Where coefficients at X = 0 are drawn by
+ * lot, a share of 1 - out[0] / p^d of the polynomials splits, and a share of out[d] / p^d has d distinct roots, all simple. Refused by 1, 2, 3, 24 or 10, in this
+ * order; by 24 where p^d is above 65,536. */
+uint64_t bk_counts(uint32_t p, uint32_t d, uint32_t *out, size_t out_count);
 
 /* The listing of a job file of either kind, with fields of 16 bits or, after a first word of 0, of 32. Where the job names no roots (r = 0) they are found. For a
  * refused job it is the one line `refused NUMBER DETAIL`. The answer is the number of bytes written; the only refusal of the call itself is 10. */
@@ -192,6 +199,9 @@ static inline uint64_t bk_sheet_factor_shift_any(const uint32_t *sheet, size_t s
 static inline uint64_t bk_sheet_replay_any(uint32_t *sheet, size_t sheet_count, const uint32_t *calls, size_t calls_count, uint32_t *answers, size_t answers_count) {
     return bk_sheet_replay(bk_words_out(sheet, sheet_count), sheet_count, bk_words_in(calls, calls_count), calls_count, bk_words_out(answers, answers_count), answers_count);
 }
+static inline uint64_t bk_counts_any(uint32_t p, uint32_t d, uint32_t *out, size_t out_count) {
+    return bk_counts(p, d, bk_words_out(out, out_count), out_count);
+}
 static inline uint64_t bk_list_any(const uint8_t *job, size_t job_count, uint8_t *out, size_t out_count) {
     return bk_list(bk_bytes_in(job, job_count), job_count, bk_bytes_out(out, out_count), out_count);
 }
@@ -215,6 +225,7 @@ static inline uint64_t bk_list_any(const uint8_t *job, size_t job_count, uint8_t
 #define bk_sheet_factor_times bk_sheet_factor_times_any
 #define bk_sheet_factor_shift bk_sheet_factor_shift_any
 #define bk_sheet_replay bk_sheet_replay_any
+#define bk_counts bk_counts_any
 #define bk_list bk_list_any
 
 #ifdef __cplusplus

@@ -1,9 +1,9 @@
 //! Document 01's examples, by the words that it prints, and what document 02 changes in them: the sheet that F-8 makes smaller, the moduli of F-2, the one call for
-//! the pair of F-4, the quotient of F-5, the known lengths of F-9, the roots that F-3 finds, the entry that F-6 corrects.
+//! the pair of F-4, the quotient of F-5, the known lengths of F-9, the roots that F-3 finds, the entry that F-6 corrects, what F-13 counts.
 
 use crate::random::Random;
 use crate::report::{engine, Outcome, Report};
-use bopkheul::{listing, numbers, pair, series, sheet};
+use bopkheul::{counts, listing, numbers, pair, series, sheet};
 
 fn example<T: PartialEq + std::fmt::Debug>(report: &mut Report, what: &str, is: T, expected: T) {
     report.expect(is == expected, &format!("document 01, {what}: {is:?} is not {expected:?}"));
@@ -132,6 +132,16 @@ fn the_quotient(report: &mut Report) {
     report.kind("the quotient of document 02's F-5");
 }
 
+/// Quadratics modulo 3, and cubics modulo 2.
+fn the_counts(report: &mut Report) {
+    let mut out = [9; 5];
+    let counted = engine(counts::counts(3, 2, &mut out));
+    report.expect(counted == Ok(3) && out == [3, 3, 3, 9, 9], "document 02, F-13: of 9 quadratics modulo 3 there are 3 of each kind");
+    let counted = engine(counts::counts(2, 3, &mut out));
+    report.expect(counted == Ok(4) && out == [4, 2, 2, 0, 9], "document 02, F-13: of 8 cubics modulo 2 half do not split");
+    report.kind("the counts of document 02's F-13");
+}
+
 /// Y^d with n columns, opened with the root 0.
 fn power_of_y(d: u32, n: u32, room: usize) -> Outcome {
     let width = n as usize;
@@ -161,4 +171,5 @@ pub fn run(_: &mut Random, report: &mut Report) {
     known_lengths(report);
     roots_found(report);
     a_correction(report);
+    the_counts(report);
 }

@@ -4,6 +4,7 @@
 
 mod calls;
 mod corrections;
+mod counts;
 mod demand_3;
 mod documents;
 mod extensions;
@@ -28,7 +29,7 @@ use std::process::exit;
 
 type Section = fn(&mut Random, &mut Report);
 
-const SECTIONS: [Section; 15] = [
+const SECTIONS: [Section; 16] = [
     documents::run,
     numbers::run,
     series::run,
@@ -44,6 +45,7 @@ const SECTIONS: [Section; 15] = [
     lengths::run,
     finding::run,
     corrections::run,
+    counts::run,
 ];
 
 fn seeds() -> Vec<u64> {

@@ -42,7 +42,7 @@ const ROWS: &[u32] = &[1, 2, 3, 4, 5, 6, 10];
 /// Not a call of its own: what the lines say that `list` writes, which is a refusal's number or a listing.
 pub const LINE: &str = "list's line";
 
-pub const OPERATIONS: [Operation; 25] = [
+pub const OPERATIONS: [Operation; 26] = [
     operation("sum", NUMBER),
     operation("difference", NUMBER),
     operation("product", NUMBER),
@@ -66,12 +66,13 @@ pub const OPERATIONS: [Operation; 25] = [
     operation("sheet factor times", &[3, 5, 6, 10, 13, 16]),
     operation("sheet factor shift", &[6, 10, 13, 16]),
     operation("sheet replay", &[5, 10]),
+    operation("counts", &[1, 2, 3, 10, 24]),
     operation("list", &[10]),
     operation(LINE, &[1, 2, 3, 4, 5, 6, 7, 8, 9]),
 ];
 
 /// Kinds of inputs: each must have come up.
-pub const KINDS: [&str; 221] = [
+pub const KINDS: [&str; 236] = [
     "document 01's examples",
     "the sheet of document 02's F-8",
     "the moduli of document 02's F-2",
@@ -79,6 +80,7 @@ pub const KINDS: [&str; 221] = [
     "the known lengths of document 02's F-9",
     "the roots of document 02's F-3",
     "the correction of document 02's F-6",
+    "the counts of document 02's F-13",
     "every modulus from 0 to 66,000",
     "every modulus from 16,776,000 to 16,778,000",
     "a prime below 4,096, squared",
@@ -263,6 +265,20 @@ pub const KINDS: [&str; 221] = [
     "list: refused, an extension with a word that is not 0 after w",
     "list: two lists that end alike, with what open was given",
     "list: two lists that end alike, with a corrected polynomial",
+    "counts: every p and D with p^D at most 65,536",
+    "counts: D is 1",
+    "counts: D is above p",
+    "counts: p^D is 65,536",
+    "counts: words past the end",
+    "counts: the polynomials of a small degree, as find splits them",
+    "counts: the largest p and the next, for each D",
+    "counts: any p and D",
+    "counts: refused, p is outside 2..16,777,215",
+    "counts: refused, p is composite",
+    "counts: refused, D is 0 or above 32",
+    "counts: refused, p^D modulo 2^32 is at most 65,536",
+    "counts: refused, into D words or fewer",
+    "counts: every set of refusals at once",
     "job: of 16-bit fields, listed",
     "job: wide, listed",
     "job: wide, listed, p above 65,535",

@@ -1,7 +1,8 @@
-//! The examples of document 01, the sheet of F-8, F-2's moduli and job files, F-4's one call for the pair, F-5's quotients, F-9's known lengths, F-3's roots, and
-//! F-6's corrections.
+//! The examples of document 01, the sheet of F-8, F-2's moduli and job files, F-4's one call for the pair, F-5's quotients, F-9's known lengths, F-3's roots, F-6's
+//! corrections, and F-13's counts.
 
 use second::calls::{replay, PlainCount};
+use second::counts::counts;
 use second::roots::roots;
 use second::{listing, numbers, pair, series, sheet, Refusal};
 
@@ -556,4 +557,36 @@ fn jobs_without_roots() {
     assert_eq!(with(14, 7), "refused 6 8\n");
     assert_eq!(with(13, 1), "refused 7 0\n");
     assert_eq!(with(6, 1), "refused 9 0\n");
+}
+
+/// Also by hand: the 17 products of 16 lines modulo 2, and the squares and products of two lines modulo 251.
+#[test]
+fn how_often_it_splits() {
+    for (p, d, expected) in [(3, 2, &[3, 3, 3][..]), (2, 3, &[4, 2, 2, 0]), (65_521, 1, &[0, 65_521]), (251, 2, &[31_375, 251, 31_375])] {
+        let mut out = [9; 5];
+        let words = expected.len();
+        assert_eq!(counts(p, d, &mut out), Ok(words as u32), "{p} {d}");
+        assert_eq!((&out[..words], &out[words..]), (expected, &[9; 5][words..]), "{p} {d}");
+    }
+    let mut out = [9; 17];
+    assert_eq!(counts(2, 16, &mut out), Ok(17));
+    assert_eq!((&out[..3], &out[3..]), (&[65_519, 2, 15][..], &[0; 14][..]));
+}
+
+#[test]
+fn too_many_polynomials_come_after_3_and_before_10() {
+    let mut out = [9; 40];
+    assert_eq!(counts(1, 33, &mut []), refused(1, 0));
+    assert_eq!(counts(1 << 24, 33, &mut []), refused(1, 0));
+    assert_eq!(counts(16_777_215, 33, &mut []), refused(2, 3));
+    for d in [0, 33, u32::MAX] {
+        assert_eq!(counts(16_777_213, d, &mut []), refused(3, 0), "{d}");
+    }
+    for (p, d) in [(2, 17), (2, 32), (3, 11), (257, 2), (65_537, 1), (16_777_213, 32)] {
+        assert_eq!(counts(p, d, &mut []), refused(24, 0), "{p} {d}");
+        assert_eq!(counts(p, d, &mut out), refused(24, 0), "{p} {d}");
+    }
+    assert_eq!(counts(2, 16, &mut out[..16]), refused(10, 17));
+    assert_eq!(counts(65_521, 1, &mut []), refused(10, 2));
+    assert_eq!(out, [9; 40]);
 }

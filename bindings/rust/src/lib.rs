@@ -26,10 +26,13 @@
 //!
 //! Here every entry is known. Where rows are known to different lengths, [`Sheet::find`] takes these lengths. [`Sheet::open_known`] and [`Sheet::open`] are for
 //! roots that are known: they take the list of them. A mistyped entry is put right by [`Sheet::correct`], and the factors with it.
+//!
+//! How often polynomials split whose coefficients are drawn by lot is said by [`counts::counts`].
 
 mod raw;
 mod refusal;
 
+pub mod counts;
 pub mod listing;
 pub mod numbers;
 pub mod pair;

@@ -10,7 +10,7 @@ pub struct Refusal {
     pub detail: u32,
 }
 
-/// The refusals by name, each with its number; 17 to 19 are not in use.
+/// The refusals by name, each with its number; 17 to 19, 22 and 23 are not in use.
 #[derive(Clone, Copy, Debug, PartialEq, Eq, Hash)]
 #[non_exhaustive]
 pub enum Kind {
@@ -32,11 +32,12 @@ pub enum Kind {
     NoFactor,
     Entry = 20,
     KnownTerms,
+    Many = 24,
     /// A number that this crate has no name for.
     Unknown,
 }
 
-const KINDS: [Kind; 18] = [
+const KINDS: [Kind; 19] = [
     Kind::ModulusRange,
     Kind::Composite,
     Kind::Degree,
@@ -55,6 +56,7 @@ const KINDS: [Kind; 18] = [
     Kind::NoFactor,
     Kind::Entry,
     Kind::KnownTerms,
+    Kind::Many,
 ];
 
 impl Refusal {
@@ -71,7 +73,7 @@ impl fmt::Display for Refusal {
         match self.kind() {
             Kind::ModulusRange => write!(to, "the modulus is below 2 or above 16777215"),
             Kind::Composite => write!(to, "the modulus is composite, {detail} divides it"),
-            Kind::Degree => write!(to, "a degree bound is above 32 (or, opening a sheet, it is 0)"),
+            Kind::Degree => write!(to, "a degree bound is above 32 (or, opening a sheet or counting, it is 0)"),
             Kind::Terms => write!(to, "the number of columns is not from 1 to 256"),
             Kind::Rows => {
                 write!(to, "an input has more or fewer words than the others give it, or a list has words of no call or lends more than there are")
@@ -89,6 +91,7 @@ impl fmt::Display for Refusal {
             Kind::NoFactor => write!(to, "there is no factor of this index"),
             Kind::Entry => write!(to, "there is no such entry to correct: no such row, column 0, or a column past the row's known length"),
             Kind::KnownTerms => write!(to, "a count of known terms or a known length is not from 1 to the columns, or a word past it is not 0"),
+            Kind::Many => write!(to, "there are more than 65536 polynomials of this degree to count"),
             Kind::Unknown => write!(to, "a refusal with no name here, detail {detail}"),
         }
     }

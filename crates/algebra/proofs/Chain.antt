@@ -136,6 +136,13 @@ module _ {R : Type 0} (𝓡 : CommRing R) where
   pub chain-monic : (r : ℕ) (c : ℕ → R) (m : ℕ → ℕ) (F : ℕ → ℕ → ℕ → R) → IsChain r c m F → Monic (sumTo r m) (prod (Columns 𝓡) r F)
   chain-monic r c m F h = prod-monic r m F (λ i l. factor-monic (c i) (m i) (F i) (h .first i l) (h .low i l))
 
+  -- so is that of the powers themselves
+  pub at-zero-top : (r : ℕ) (c : ℕ → R) (m : ℕ → ℕ) → ((i : ℕ) → i < r → 1 ≤ m i) → at-zero r c m (sumTo r m) ≡ 𝟙
+  at-zero-top r c m l =
+      let F : ℕ → ℕ → ℕ → R = λ i. cons (linPow 𝓡 (c i) (m i)) (λ _. 𝟘ₛ) in
+      let h : IsChain r c m F = record { powers = l; first = λ i _. refl; low = λ i _ t. below-more 𝓡 (omega arith) (below-𝟘 𝓡) } in
+      sym (ap (λ x. x (sumTo r m)) (chain-at-zero r c m F h)) ∙ chain-monic r c m F h .top
+
   -- its columns below n are determined by those of the factors
   pub chain-product-ext : (r n : ℕ) (F F′ : ℕ → ℕ → ℕ → R) → ((i : ℕ) → i < r → (t : ℕ) → t < n → F i t ≡ F′ i t)
       → (t : ℕ) → t < n → prod (Columns 𝓡) r F t ≡ prod (Columns 𝓡) r F′ t

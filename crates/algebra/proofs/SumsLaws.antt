@@ -1,9 +1,10 @@
 -- Laws of plain sums.
 -- Assumes nothing.
 use Prim.Native.Nat.{ℕ, zero, suc, _+_, _-_, _*_, _≤_, _<_}
-use native.Mathlib.Nat.{add-zero, add-suc}
+use native.Mathlib.Nat.{add-zero, add-suc, eq-or-lt-of-le, le-of-suc-le-suc}
 use native.Mathlib.Omega.{arith}
 use mathlib.Core.Path.{_≡_, refl, sym, _∙_, ap}
+use mathlib.Core.Logic.{_≢_, ⊎-elim}
 use Rattle.algebra.specs.Sums.{sumTo}
 
 pub sumTo-zero : (f : ℕ → ℕ) → sumTo zero f ≡ 0
@@ -35,13 +36,6 @@ pub sumTo-add : (n : ℕ) (f g : ℕ → ℕ) → sumTo n (λ i. f i + g i) ≡ 
 sumTo-add zero f g = omega (arith, sumTo-zero f, sumTo-zero g, sumTo-zero (λ i. f i + g i))
 sumTo-add (suc n) f g = omega (arith, sumTo-suc n f, sumTo-suc n g, sumTo-suc n (λ i. f i + g i), sumTo-add n f g)
 
--- double sums may be exchanged
-pub sumTo-swap : (n m : ℕ) (f : ℕ → ℕ → ℕ) → sumTo n (λ i. sumTo m (f i)) ≡ sumTo m (λ j. sumTo n (λ i. f i j))
-sumTo-swap zero m f = sumTo-zero (λ i. sumTo m (f i)) ∙ sym (sumTo-zeros m (λ j. sumTo zero (λ i. f i j)) (λ j l. sumTo-zero (λ i. f i j)))
-sumTo-swap (suc n) m f =
-    sumTo-suc n (λ i. sumTo m (f i)) ∙ ap (λ x. x + sumTo m (f n)) (sumTo-swap n m f) ∙ sym (sumTo-add m (λ j. sumTo n (λ i. f i j)) (f n))
-    ∙ sumTo-ext m (λ j l. sym (sumTo-suc n (λ i. f i j)))
-
 pub sumTo-append : (n m : ℕ) (f : ℕ → ℕ) → sumTo (n + m) f ≡ sumTo n f + sumTo m (λ i. f (n + i))
 sumTo-append n zero f = rw (sumTo-zero (λ i. f (n + i)), add-zero n, add-zero (sumTo n f))
 sumTo-append n (suc m) f =
@@ -63,3 +57,29 @@ sumTo-reverse (suc n) f =
       ap f (let e : suc n - (0 + 1) ≡ n = omega arith in e),
       sumTo-ext n {f = λ i. f (suc n - (suc i + 1))} {g = λ i. f (n - (i + 1))} (λ i _. ap f (let e : suc n - (suc i + 1) ≡ n - (i + 1) = omega arith in e)),
     )
+
+pub sumTo-const : (n k : ℕ) → sumTo n (λ _. k) ≡ n * k
+sumTo-const zero k = omega (arith, sumTo-zero (λ _. k))
+sumTo-const (suc n) k = omega (arith, sumTo-suc n (λ _. k), sumTo-const n k)
+
+-- a summand is at most the sum
+pub sumTo-at : (n i : ℕ) (f : ℕ → ℕ) → i < n → f i ≤ sumTo n f
+sumTo-at n i f l = omega (arith, sumTo-suc i f, sumTo-mono (suc i) n f l)
+
+-- a sum with at most one summand that is not 0
+pub sumTo-single : (n i : ℕ) (f : ℕ → ℕ) → i < n → ((j : ℕ) → j < n → j ≢ i → f j ≡ 0) → sumTo n f ≡ f i
+sumTo-single zero i f l h = absurd (let z : ⊥ = omega arith in z)
+sumTo-single (suc n) i f l h = ⊎-elim
+    (λ (e : i ≡ n). omega (arith, sumTo-suc n f, sumTo-zeros n f (λ j u. h j (omega arith) (λ q. let z : ⊥ = omega arith in z)), ap f e))
+    (λ (g : i < n). omega (arith, sumTo-suc n f, sumTo-single n i f g (λ j u. h j (omega arith)), h n (omega arith) (λ q. let z : ⊥ = omega arith in z)))
+    (eq-or-lt-of-le (le-of-suc-le-suc l))
+
+-- as many as there are numbers, each 1 or more, is at most their sum
+pub sumTo-count : (n : ℕ) (f : ℕ → ℕ) → ((i : ℕ) → i < n → 1 ≤ f i) → n ≤ sumTo n f
+sumTo-count zero f h = omega arith
+sumTo-count (suc n) f h = omega (arith, sumTo-suc n f, sumTo-count n f (λ i l. h i (omega arith)), h n (omega arith))
+
+-- a sum that is not 0 has summands
+pub sumTo-some : (n : ℕ) (f : ℕ → ℕ) → 1 ≤ sumTo n f → 1 ≤ n
+sumTo-some zero f l = absurd (let z = sumTo-zero f in let y : ⊥ = omega arith in y)
+sumTo-some (suc n) f l = omega arith

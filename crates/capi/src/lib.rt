@@ -26,6 +26,7 @@ ghost use Rattle.open.specs.Find.{withRoots, findVerdict};
 ghost use Rattle.extend.specs.Extend.{extendVerdict, ExtendDone};
 ghost use Rattle.correct.specs.Correct.{correctVerdict, CorrectDone};
 ghost use Rattle.calls.specs.Replay.{callCount, callsTo, answerCount, replayVerdict, ReplayLeaves};
+ghost use Rattle.counts.specs.Counts.{countWords, countsChecks};
 ghost use Rattle.listing.specs.Listing.{Listed};
 ghost use Rattle.capi.specs.Packed.{packed, packedNumber, Packs};
 ghost use Rattle.capi.specs.Factor.{factorChecks, factorWords};
@@ -320,6 +321,14 @@ pub extern "C" fn bk_sheet_replay(sheet: &mut [u32], calls: &[u32], answers: &mu
         (callsTo (callCount (now (calls .entry))) (now (calls .entry))) (now (sheet .entry)) (now (sheet .exit)) (now (answers .entry)) (now (answers .exit)) ⌝ }
 {
     pack(calls::replay(sheet, calls, answers))
+}
+
+#[no_mangle]
+pub extern "C" fn bk_counts(p: u32, d: u32, out: &mut [u32]) -> u64
+    ensures answer { λ r. ⌜ r ≡ packed (result (judge (countsChecks p d (length (now (out .entry))))) (d + 1)) ⌝ }
+    ensures words { λ _. ⌜ now (out .exit) ≡ written (judge (countsChecks p d (length (now (out .entry))))) (over (countWords p d) (now (out .entry))) (now (out .entry)) ⌝ }
+{
+    pack(counts::counts(p, d, out))
 }
 
 // The listing of a job file. The answer is its number of bytes.

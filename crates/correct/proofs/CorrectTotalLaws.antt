@@ -29,14 +29,12 @@ use Rattle.layout.specs.internal.Places.{Placed}
 use Rattle.front.specs.internal.Front.{Front}
 use Rattle.front.proofs.FrontLaws.{shape-placed, set-degree, set-width}
 use Rattle.sheet.specs.Sheet.{Sound}
-use Rattle.sheet.specs.Test.{soundTest}
-use Rattle.sheet.specs.Reading.{soundCheck}
 use Rattle.sheet.specs.internal.Stages.{SplitFits, Computed, WorkedOut}
 use Rattle.sheet.specs.internal.Stored.{Stored}
-use Rattle.sheet.proofs.SoundTestLaws.{sound-test}
+use Rattle.sheet.proofs.SoundTestLaws.{spoiled-first, sound-first, passed-first}
 use Rattle.sheet.proofs.SoundStagesLaws.{sound-front}
 use Rattle.sheet.proofs.StoredLaws.{computed-set}
-use Rattle.correct.specs.Correct.{isEntry, entryCheck, numberCheck, correctChecks, correctVerdict, CorrectDone, Corrected}
+use Rattle.correct.specs.Correct.{isEntry, entryCheck, numberCheck, correctVerdict, CorrectDone, Corrected}
 use Rattle.correct.proofs.CorrectingLaws.{correct-only, set-front, set-terms, set-split, stored-done, correct-exists}
 
 -- the test behind refusal 20
@@ -94,10 +92,10 @@ module _ (old : List ℕ) (j t e : ℕ) where
   pub correct-able : correctVerdict old j t e ≡ Pass → Able
   unfolding correctVerdict
   correct-able q =
-      let a = pass-check (soundCheck old) _ q in
-      let b = pass-check (entryCheck (degree old) (known old) j t) _ (a .1) in
+      let (sound, rest) = passed-first old _ q in
+      let b = pass-check (entryCheck (degree old) (known old) j t) _ rest in
       let c = pass-check (numberCheck (modulus old) e) _ (b .1) in
-      record { sound = sound-test old .0 (not-false (soundTest old) (a .0)); entry = entry-is (degree old) (known old) j t (not-false _ (b .0)); small = leb-false (modulus old) e (c .0) }
+      record { sound = sound; entry = entry-is (degree old) (known old) j t (not-false _ (b .0)); small = leb-false (modulus old) e (c .0) }
 
   -- set the entry, work again, store
   module _ (a : Able) where
@@ -150,16 +148,12 @@ module _ (old : List ℕ) (j t e : ℕ) where
   -- correct's verdict, case by case
   pub correct-spoiled : ¬ Sound old → correctVerdict old j t e ≡ Refuse (refusal 13 0)
   unfolding correctVerdict
-  correct-spoiled h = go (soundTest old) refl
-    where
-      go : (b : Bool) → soundTest old ≡ b → judge (correctChecks old j t e) ≡ Refuse (refusal 13 0)
-      go true q = absurd (h (sound-test old .0 q))
-      go false q = take-check (soundCheck old) _ (ap not q)
+  correct-spoiled = spoiled-first old _
 
   module _ (h : Sound old) where
     pub correct-judged : correctVerdict old j t e ≡ judge (entryCheck (degree old) (known old) j t ∷ numberCheck (modulus old) e ∷ [])
     unfolding correctVerdict
-    correct-judged = skip-check (soundCheck old) _ (ap not (sound-test old .1 h))
+    correct-judged = sound-first old _ h
 
     pub correct-nowhere : isEntry (degree old) (known old) j t ≡ false → correctVerdict old j t e ≡ Refuse (refusal 20 0)
     correct-nowhere q = correct-judged ∙ take-check (entryCheck (degree old) (known old) j t) _ (ap not q)

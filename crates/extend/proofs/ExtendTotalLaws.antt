@@ -4,10 +4,10 @@
 --   extend-spoiled, extend-judged, extend-outside, extend-behind, extend-reached   extend's verdict, case by case
 -- Assumes nothing.
 use Prim.Native.Nat.{ℕ, _≤_, _<_}
-use mathlib.Core.Path.{_≡_, refl, _∙_, ap, ap₂}
-use mathlib.Core.Bool.{Bool, true, false, not, _||_}
+use mathlib.Core.Path.{_≡_, _∙_, ap₂}
+use mathlib.Core.Bool.{true, _||_}
 use mathlib.Core.List.{List, [], _∷_}
-use borrow.Author.Tests.{ltb-false, lt-ltb, le-ltb, not-false}
+use borrow.Author.Tests.{ltb-false, lt-ltb, le-ltb}
 use Rattle.numbers.specs.Words.{outside}
 use Rattle.numbers.specs.Refusals.{beyondCheck, behindCheck, judge, refusal}
 use Rattle.numbers.specs.declared.refusal.Verdict.the-variants.{Pass, Refuse}
@@ -16,10 +16,8 @@ use Rattle.numbers.proofs.OneLaws.{verdict-one}
 use Rattle.numbers.proofs.RefusalsLaws.{none-judged, inside, pass-check, take-check, skip-check}
 use Rattle.layout.specs.Layout.{terms, reach}
 use Rattle.sheet.specs.Sheet.{Sound}
-use Rattle.sheet.specs.Test.{soundTest}
-use Rattle.sheet.specs.Reading.{soundCheck}
-use Rattle.sheet.proofs.SoundTestLaws.{sound-test}
-use Rattle.extend.specs.Extend.{extendChecks, extendVerdict, ExtendDone, Extended}
+use Rattle.sheet.proofs.SoundTestLaws.{spoiled-first, sound-first, passed-first}
+use Rattle.extend.specs.Extend.{extendVerdict, ExtendDone, Extended}
 use Rattle.extend.proofs.ExtendingLaws.{extend-only, extend-exists}
 
 module _ (old : List ℕ) (w : ℕ) where
@@ -31,10 +29,10 @@ module _ (old : List ℕ) (w : ℕ) where
   pub extend-able : extendVerdict old w ≡ Pass → Able
   unfolding extendVerdict
   extend-able e =
-      let a = pass-check (soundCheck old) _ e in
-      let b = pass-check (beyondCheck (reach old) w) _ (a .1) in
+      let (sound, rest) = passed-first old _ e in
+      let b = pass-check (beyondCheck (reach old) w) _ rest in
       let c = pass-check (behindCheck (terms old) w) _ (b .1) in
-      record { sound = sound-test old .0 (not-false (soundTest old) (a .0)); low = ltb-false w (terms old) (c .0); high = inside 1 (reach old) w (b .0) .1 }
+      record { sound = sound; low = ltb-false w (terms old) (c .0); high = inside 1 (reach old) w (b .0) .1 }
 
   pub extended-one : OneOutcome (Extended old w)
   extended-one =
@@ -47,16 +45,12 @@ module _ (old : List ℕ) (w : ℕ) where
   -- extend's verdict, case by case
   pub extend-spoiled : ¬ Sound old → extendVerdict old w ≡ Refuse (refusal 13 0)
   unfolding extendVerdict
-  extend-spoiled h = go (soundTest old) refl
-    where
-      go : (b : Bool) → soundTest old ≡ b → judge (extendChecks old w) ≡ Refuse (refusal 13 0)
-      go true e = absurd (h (sound-test old .0 e))
-      go false e = take-check (soundCheck old) _ (ap not e)
+  extend-spoiled = spoiled-first old _
 
   module _ (h : Sound old) where
     pub extend-judged : extendVerdict old w ≡ judge (beyondCheck (reach old) w ∷ behindCheck (terms old) w ∷ [])
     unfolding extendVerdict
-    extend-judged = skip-check (soundCheck old) _ (ap not (sound-test old .1 h))
+    extend-judged = sound-first old _ h
 
     pub extend-outside : outside 1 (reach old) w ≡ true → extendVerdict old w ≡ Refuse (refusal 14 0)
     extend-outside e = extend-judged ∙ take-check (beyondCheck (reach old) w) _ e

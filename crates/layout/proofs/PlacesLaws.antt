@@ -9,9 +9,8 @@
 --   header-polynomial, header-entry, header-factors, header-end, header-size   the places that a header read by value gives
 --   all-rows-small     a product of rows and columns is small
 --   part-is            the part from there to there is the factor's
---   count-sum          as many as there are powers is at most their sum
 -- Assumes nothing.
-use Prim.Native.Nat.{ℕ, zero, suc, _+_, _-_, _*_, _≤_, _<_}
+use Prim.Native.Nat.{ℕ, suc, _+_, _-_, _*_, _≤_, _<_}
 use native.Mathlib.Nat.{add-sub-cancel-left, mul-le-mul, mul-le-mul-right, add-mul}
 use native.Mathlib.Omega.{arith}
 use mathlib.Core.Path.{_≡_, _∙_, ap, ap₂}
@@ -28,11 +27,6 @@ use Rattle.rows.proofs.RowsLaws.{row-fits}
 use Rattle.layout.specs.declared.Header.{Header}
 use Rattle.layout.specs.Layout.{degree, width, count, power, polynomial, end, polynomialFrom, factorsFrom, total, factorFrom, factorSize, factorPart, entryAt}
 use Rattle.layout.specs.internal.Places.{Placed, HeaderIs}
-
--- as many as there are numbers, each 1 or more, is at most their sum
-pub count-sum : (r : ℕ) (m : ℕ → ℕ) → ((i : ℕ) → i < r → 1 ≤ m i) → r ≤ sumTo r m
-count-sum zero m h = omega arith
-count-sum (suc r) m h = let z = count-sum r m (λ i l. h i (omega arith)) in omega (arith, sumTo-suc r m, h r (omega arith))
 
 -- the rows of a sheet are few
 pub all-rows-small : (rows n : ℕ) → rows ≤ 1200 → n ≤ largestWidth → rows * n ≤ 307200

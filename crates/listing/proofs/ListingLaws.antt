@@ -24,7 +24,7 @@ use lib.ListN.{length, take, drop, length-append}
 use lib.Seq.{getD-take, length-take-le, take-at}
 use borrow.Author.Tests.{le-ltb, lt-ltb, ltb-false, ne-eqb}
 use Rattle.algebra.specs.Sums.{sumTo}
-use Rattle.algebra.proofs.SumsLaws.{sumTo-ext}
+use Rattle.algebra.proofs.SumsLaws.{sumTo-ext, sumTo-count}
 use Rattle.numbers.specs.Words.{word, choose, tabulate, over}
 use Rattle.numbers.specs.Refusals.{check, judge, refusal, Outcome, accepted, refused, result, written, Leaves}
 use Rattle.numbers.specs.declared.refusal.Refusal.{Refusal}
@@ -36,7 +36,7 @@ use Rattle.numbers.proofs.RefusalsLaws.{after-pass, after-refuse, pass-parts, t
 use Rattle.numbers.proofs.WordsLaws.{tabulate-ext, length-tabulate}
 use Rattle.layout.specs.Layout.{modulus, degree, width, terms, count, reach, root, power, factor, rootsFrom, factorsFrom, end}
 use Rattle.sheet.specs.Sheet.{Sound, Given, givenOf, wholeOf, given-reach, Holds}
-use Rattle.layout.proofs.PlacesLaws.{upto-power, count-sum}
+use Rattle.layout.proofs.PlacesLaws.{upto-power}
 use Rattle.layout.proofs.RegionsLaws.{in-rows}
 use Rattle.sheet.proofs.ReadingLaws.{sound-placed}
 use Rattle.sheet.proofs.SoundTestLaws.{sound-test}
@@ -71,7 +71,7 @@ listable s sound d n = record {
   degree-high = d;
   width-low = omega (arith, sound .terms-low, sound-terms s sound);
   width-high = n;
-  count-high = omega (arith, count-sum (count s) (power s) (sound .factors .powers), sound .factors .degree);
+  count-high = omega (arith, sumTo-count (count s) (power s) (sound .factors .powers), sound .factors .degree);
 }
 
 -- roots listed, or found: what holds of both ways to open holds of a job's

@@ -1,5 +1,6 @@
 pub mod WordsLaws
 pub mod ListedLaws
+pub mod EnumerationLaws
 pub mod DivisorLaws
 pub mod PrimesLaws
 pub mod RefusalsLaws

@@ -51,6 +51,10 @@ after-refuse (c ∷ cs) ds r e = go (c .applies) e (after-refuse cs ds r)
     go true e more = e
     go false e more = more e
 
+-- where a call told the verdict
+pub after-told : (cs ds : List Check) (v : Verdict) (r : Refusal) → v ≡ judge cs → v ≡ Refuse r → judge (cs ++ ds) ≡ Refuse r
+after-told cs ds v r e q = after-refuse cs ds r (sym e ∙ q)
+
 -- what comes after a list of checks counts by its verdict alone
 pub after-same : (cs xs ys : List Check) → judge xs ≡ judge ys → judge (cs ++ xs) ≡ judge (cs ++ ys)
 unfolding judge

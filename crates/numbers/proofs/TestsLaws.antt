@@ -44,6 +44,17 @@ allTo-false zero test i l e = absurd (let z : ⊥ = omega arith in z)
 allTo-false (suc n) test i l e =
     ⊎-elim (λ (q : i ≡ n). rw (sym (ap test q) ∙ e)) (λ g. not-both (test n) (allTo n test) (allTo-false n test i g e)) (eq-or-lt-of-le (le-of-suc-le-suc l))
 
+-- the first test taken off
+pub allTo-front : (n : ℕ) (test : ℕ → Bool) → allTo (suc n) test ≡ choose (test zero) (allTo n (λ i. test (suc i))) false
+unfolding allTo
+allTo-front zero test = refl
+allTo-front (suc n) test = ap (λ b. choose (test (suc n)) b false) (allTo-front n test) ∙ swap (test (suc n)) (test zero) (allTo n (λ i. test (suc i)))
+  where
+    swap : (a b c : Bool) → choose a (choose b c false) false ≡ choose b (choose a c false) false
+    swap true b c = refl
+    swap false true c = refl
+    swap false false c = refl
+
 pub all-at : (bs : List Bool) → all bs ≡ true → (i : ℕ) → getD bs i true ≡ true
 unfolding all
 all-at [] e i = refl

@@ -189,6 +189,11 @@ tabulate-append k zero f = ap (λ (n : ℕ). tabulate n f) (add-zero k) ∙ sym 
 tabulate-append k (suc m) f =
     ap (λ (n : ℕ). tabulate n f) (add-suc k m) ∙ ap (λ s. s ++ (f (k + m) ∷ [])) (tabulate-append k m f) ∙ append-assoc (tabulate k f) (tabulate m (λ t. f (k + t))) (f (k + m) ∷ [])
 
+pub tabulate-front : (n : ℕ) (f : ℕ → ℕ) → tabulate (suc n) f ≡ f zero ∷ tabulate n (λ i. f (suc i))
+unfolding tabulate
+tabulate-front zero f = refl
+tabulate-front (suc n) f = ap (λ (l : List ℕ). l ++ (f (suc n) ∷ [])) (tabulate-front n f)
+
 pub length-over : (xs s : List ℕ) → length xs ≤ length s → length (over xs s) ≡ length s
 length-over xs s h = simp (length-append, length-drop) (omega arith)
 
@@ -211,6 +216,13 @@ writing-store xs s e n v w q h = record {
 pub writing-next : (n : ℕ) (f : ℕ → ℕ) (s e : List ℕ) (v : ℕ) → Writing (tabulate n f) s e → v ≡ f n → n < length s → Writing (tabulate (n + 1) f) s (set e n v)
 writing-next n f s e v w q h =
     subst (λ (xs : List ℕ). Writing xs s (set e n v)) (ap (λ (x : ℕ). tabulate n f ++ (x ∷ [])) q ∙ sym (tabulate-suc n f)) (writing-store (tabulate n f) s e n v w (length-tabulate n f) h)
+
+-- the first word left as it is, and set at last
+pub writing-later : (s : List ℕ) → 0 < length s → Writing (word s 0 ∷ []) s s
+writing-later s l = record { is = drop-cons s 0 0 l; long = refl }
+
+pub writing-first : (x y : ℕ) (xs s e : List ℕ) → Writing (x ∷ xs) s e → Writing (y ∷ xs) s (set e 0 y)
+writing-first x y xs s e w = record { is = ap (λ (l : List ℕ). set l 0 y) (w .is); long = length-set e 0 y ∙ w .long }
 
 -- n words more, written by a call that was lent the part of n words from a on
 pub writing-part : (xs ys s e : List ℕ) (a n : ℕ) → Writing xs s e → length xs ≡ a → length ys ≡ n → a + n ≤ length s

@@ -1,7 +1,7 @@
 -- Refusals by number: how every operation judges what it is given.
 --   refusal n d         the refusal of number n with detail d
 --   Check, check n b d  a row of the table of refusals: number n is given when b holds, with detail d
---   judge checks        the first check of the list that applies: the checks stand in number order, but that 20 comes before 6 and 21 after it
+--   judge checks        the first check of the list that applies: the checks stand in number order, but that 20 comes before 6, 21 after it, and 24 after 3
 --   Outcome A           a call is accepted with an A, or refused with number and detail
 --   result v x          the outcome that follows a verdict: a pass is accepted with x
 --   outcome r           number and values for each case of an answer
@@ -9,8 +9,8 @@
 --   Leaves v Met old new   the same where what is written is given by conditions
 --   modulusChecks p     refusals 1 and 2
 --   unreduced p s       refusal 6 for the words s; its detail is firstLarge p s
---   rowsCheck, widthCheck, lengthsCheck, reducedCheck, roomCheck, beyondCheck, behindCheck   refusals 3, 4, 5, 6, 10, 14 and 15, as several
---                       operations have them
+--   degreeCheck, rowsCheck, widthCheck, lengthsCheck, reducedCheck, roomCheck, beyondCheck, behindCheck   refusals 3 (of a degree, and of rows), 4, 5,
+--                       6, 10, 14 and 15, as several operations have them
 --   shapeChecks ..      refusals 3 to 6 for an operation that takes fRows rows f and gRows rows g of N words each and gives `rows` rows:
 --                       a degree bound is above 32 where there are more than 33 rows
 --   inputChecks ..      refusals 1 to 6 for such an operation
@@ -29,7 +29,7 @@ use Rattle.numbers.specs.declared.refusal.Verdict.{Verdict}
 use Rattle.numbers.specs.declared.refusal.Verdict.the-variants.{Pass, Refuse}
 use Rattle.numbers.specs.declared.refusal.Answer.{Answer}
 use Rattle.numbers.specs.declared.refusal.Answer.the-variants.{Done, Refused}
-use Rattle.numbers.specs.Limits.{largestModulus, mostRows, largestWidth}
+use Rattle.numbers.specs.Limits.{largestModulus, largestDegree, mostRows, largestWidth}
 
 abbrev pub refusal : ℕ → ℕ → Refusal
 refusal n d = record { number = n; detail = d }
@@ -77,6 +77,9 @@ abbrev pub unreduced : ℕ → List ℕ → Bool
 unreduced p s = ltb (firstLarge p s) (length s)
 
 -- rows of the table that several operations have
+abbrev pub degreeCheck : ℕ → Check
+degreeCheck D = check 3 (outside 1 largestDegree D) 0
+
 abbrev pub widthCheck : ℕ → Check
 widthCheck N = check 4 (outside 1 largestWidth N) 0
 

@@ -12,6 +12,7 @@
 --   outside low high n   n is below low or above high
 --   lowWord n            what 32 bits keep of n
 --   tabulate n f         the words f 0, f 1, .., f (n − 1)
+--   each n f             the lists f 0, f 1, .., f (n − 1), one after the other
 --   over xs s            s with the words xs in place of its first ones
 --   part s a n           the n words of s from word a on
 --   upTo k f t           f t, and 0 from k on
@@ -69,6 +70,10 @@ lowWord n = n % 4294967296
 unfoldable pub tabulate : ℕ → (ℕ → ℕ) → List ℕ
 tabulate zero f = []
 tabulate (suc n) f = tabulate n f ++ (f n ∷ [])
+
+unfoldable pub each : ℕ → (ℕ → List (List ℕ)) → List (List ℕ)
+each zero f = []
+each (suc n) f = each n f ++ f n
 
 abbrev pub over : List ℕ → List ℕ → List ℕ
 over xs s = xs ++ drop (length xs) s

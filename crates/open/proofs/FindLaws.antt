@@ -1,15 +1,17 @@
 -- Opening without a list of roots is opening with the list of all of them.
+--   all-listed      a list of roots whose powers give f at X = 0 is that of all roots
 --   roots-most      f at X = 0 has no more roots than its degree
 --   roots-list      where the list of all roots has powers, it passes check 8
 --   none-found, found-ready, found-finished   what was found, for refusal 9 and for finishing
 --   find-split      the checks are those of the rows, and then 9 and 10 of open with all roots
 --   find-list, find-ready, find-open   what they leave: open's checks pass with that list
---   nine            refusal 9 is given exactly where f at X = 0 is no product of powers of Y minus a number
+--   nine-none       refusal 9 is given exactly where no powers of all roots are found
+--   nine            that is where f at X = 0 is no product of powers of Y minus a number
 --   found-opened    an accepted find is an accepted open with the list of all roots
 --   opened-found    and an accepted open an accepted find: whoever lists the roots gets the same words
 --   found-one       for every input find's contract allows exactly one answer and one content of the slice
 -- Assumes nothing.
-use Prim.Native.Nat.{ℕ, zero, suc, _+_, _-_, _*_, _≤_}
+use Prim.Native.Nat.{ℕ, _+_, _-_, _*_, _≤_, _<_}
 use native.Mathlib.Omega.{arith}
 use mathlib.Core.Path.{_≡_, refl, sym, _∙_, ap, subst}
 use mathlib.Core.Logic.{_↔_}
@@ -20,9 +22,9 @@ use lib.Dec.{ltb}
 use lib.ListN.{length, take}
 use lib.Seq.{length-take-le, getD-take}
 use Rattle.algebra.specs.Prime.{Prime}
-use Rattle.algebra.specs.Sums.{sumTo}
-use Rattle.algebra.proofs.SumsLaws.{sumTo-zero}
+use Rattle.algebra.proofs.SumsLaws.{sumTo-some}
 use Rattle.numbers.specs.Words.{word, tabulate}
+use Rattle.numbers.specs.internal.Facts.{AllBelow, Rising}
 use Rattle.numbers.specs.Refusals.{Check, judge, refusal, Outcome, accepted, roomCheck}
 use Rattle.numbers.specs.declared.refusal.Verdict.the-variants.{Pass, Refuse}
 use Rattle.numbers.specs.One.{OneOutcome}
@@ -38,7 +40,7 @@ use Rattle.open.specs.Open.{powersOf, needed, openVerdict, polynomialChe
 use Rattle.open.specs.Find.{firstColumn, withRoots, findVerdict, Found, IsProduct}
 use Rattle.open.specs.internal.Writing.{FreshReady, roomVerdict, Finished}
 use Rattle.open.proofs.OpenChecksLaws.{RowsPass, rows-pass, rows-passes, other-roots, ListPass, list-passes, open-rows-split}
-use Rattle.open.proofs.OpenLaws.{powers-are, powers-none}
+use Rattle.open.proofs.OpenLaws.{GivenSplits, powers-are, powers-none}
 use Rattle.open.proofs.OpenSplitLaws.{split-none, split-some}
 use Rattle.open.proofs.OpeningLaws.{GivenReady, SplitPassed, Passed, list-ready, split-passed, open-passed}
 use Rattle.open.proofs.OpenDoneLaws.{finish-ready, opened-finished}
@@ -51,6 +53,13 @@ pub find-split : (g : Given) (room : ℕ) → findVerdict g room ≡ judge ((pol
 unfolding findVerdict
 find-split g room = refl
 
+-- a list of roots whose powers give f at X = 0 is that of all roots
+pub all-listed : (g : Given) → Prime (g .p) → ((j : ℕ) → j ≤ g .D → word (firstColumn g) j < g .p) → Rising (g .roots) → AllBelow (g .p) (g .roots)
+    → (m : ℕ → ℕ) → GivenSplits g m → withRoots g ≡ g
+all-listed g prime below up low m S =
+    ap (givenOf (g .p) (g .D) (g .N) (g .rows) (g .lengths))
+    (roots-complete prime (firstColumn g) (g .roots) m (splits-gives g prime (firstColumn g) (column-long g) (column-at g) below up low m S) up low)
+
 -- rows that passed checks 1 to 7
 module _ (g : Given) (h : RowsPass g) where
   abbrev e : List ℕ
@@ -62,10 +71,6 @@ module _ (g : Given) (h : RowsPass g) where
   prime : Prime (g .p)
   prime = h .polynomial .modulus .prime
 
-  some-root : (r : ℕ) (m : ℕ → ℕ) → suc (sumTo r m) ≡ length e → 1 ≤ r
-  some-root zero m z = absurd (let y = sumTo-zero m in let x = column-monic g h .some in let w : ⊥ = omega arith in w)
-  some-root (suc r) m z = omega arith
-
   pub roots-most : length (allRoots (g .p) e) ≤ g .D
   roots-most =
       let c = column-monic g h in
@@ -75,7 +80,7 @@ module _ (g : Given) (h : RowsPass g) where
   roots-list : (m : ℕ → ℕ) → GivesPowers (g .p) (allRoots (g .p) e) e m → ListPass G
   roots-list m P = record {
     rows = other-roots g h (allRoots (g .p) e) (roots-below prime e);
-    count-low = some-root (length (allRoots (g .p) e)) m (P .sum);
+    count-low = sumTo-some (length (allRoots (g .p) e)) m (omega (arith, P .sum, column-monic g h .some));
     count-high = roots-most;
     up = roots-rise prime e;
   }
@@ -156,11 +161,18 @@ module _ (g : Given) (room : ℕ) where
         ∙ split-some (polynomialChecks (withRoots g) ++ listChecks (withRoots g)) (list-passes (withRoots g) find-list) (withRoots g) room (parts .found) (parts .found-is)
         ∙ sym (find-split g room ∙ split-some before (parts .passed) (withRoots g) room (parts .found) (parts .found-is))
 
-  -- 9, and only where there is no product
-  pub nine : judge (polynomialChecks g ++ topChecks g) ≡ Pass → (findVerdict g room ≡ Refuse (refusal 9 0)) ↔ ((l : List ℕ) (m : ℕ → ℕ) → ¬ IsProduct g l m)
+  -- 9, where there are no powers, which is where there is no product
+  pub nine-none : judge before ≡ Pass → (findVerdict g room ≡ Refuse (refusal 9 0)) ↔ (powersOf (withRoots g) ≡ none)
+  nine-none pass = (λ v. go v (powersOf (withRoots g)) refl, λ q. find-split g room ∙ split-none before pass (withRoots g) room q)
+    where
+      go : findVerdict g room ≡ Refuse (refusal 9 0) → (o : Option (List ℕ)) → powersOf (withRoots g) ≡ o → powersOf (withRoots g) ≡ none
+      go v none q = q
+      go v (some k) q = absurd (not-nine room (needed (withRoots g)) (sym (split-some before pass (withRoots g) room k q) ∙ sym (find-split g room) ∙ v))
+
+  pub nine : judge before ≡ Pass → (findVerdict g room ≡ Refuse (refusal 9 0)) ↔ ((l : List ℕ) (m : ℕ → ℕ) → ¬ IsProduct g l m)
   nine pass = (
-    λ v. go v (powersOf (withRoots g)) refl,
-    λ never. find-split g room ∙ split-none before pass (withRoots g) room (powers-none (withRoots g) (prime g h) (roots-rise (prime g h) e′) (roots-below (prime g h) e′) .1
+    λ v l m P. none-found g h .1 (nine-none pass .0 v) l m (column-gives g h l m P),
+    λ never. nine-none pass .1 (powers-none (withRoots g) (prime g h) (roots-rise (prime g h) e′) (roots-below (prime g h) e′) .1
         (λ l _ S. never (allRoots (g .p) e′) (word l) (record { reduced = S .reduced; powers = S .powers; degree = S .degree; splits = S .splits }))),
   )
     where
@@ -169,10 +181,6 @@ module _ (g : Given) (room : ℕ) where
 
       e′ : List ℕ
       e′ = firstColumn g
-
-      go : findVerdict g room ≡ Refuse (refusal 9 0) → (o : Option (List ℕ)) → powersOf (withRoots g) ≡ o → (l : List ℕ) (m : ℕ → ℕ) → ¬ IsProduct g l m
-      go v none q l m P = none-found g (rows-pass g pass) .1 q l m (column-gives g (rows-pass g pass) l m P)
-      go v (some k) q l m P = not-nine room (needed (withRoots g)) (sym (split-some before pass (withRoots g) room k q) ∙ sym (find-split g room) ∙ v)
 
 -- an accepted find is an accepted open with the list of all roots
 pub found-opened : (g : Given) (old : List ℕ) (T : ℕ) (new : List ℕ) → Found g old (accepted T) new → Opened (withRoots g) old (accepted T) new
@@ -198,9 +206,7 @@ module _ (p D N : ℕ) (rows lengths roots old : List ℕ) (T : ℕ) (new : List
   same =
       let h = passed .list in
       let low = h .rows .polynomial .roots-below in
-      let P = splits-gives g (prime f rootless) (firstColumn f) (column-long f) (column-at f) (column-below f rootless) (h .up) low (word (passed .found))
-      (powers-are g (prime f rootless) (h .up) low (passed .found) .0 (passed .found-is) .1) in
-      ap (givenOf p D N rows lengths) (roots-complete (prime f rootless) (firstColumn f) roots (word (passed .found)) P (h .up) low)
+      all-listed g (prime f rootless) (column-below g (h .rows)) (h .up) low (word (passed .found)) (powers-are g (prime f rootless) (h .up) low (passed .found) .0 (passed .found-is) .1)
 
   verdicts : findVerdict f (length old) ≡ openVerdict g (length old)
   verdicts =

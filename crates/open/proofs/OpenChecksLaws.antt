@@ -10,7 +10,7 @@
 --   other-roots            and so they do with other roots
 --   ListPass, list-pass, list-passes   what checks 1 to 8, and 21, let pass, and that they do
 --   other-rows, other-list  and so they do with other rows and known lengths, if these fit, the top row is right and all are below p
---   whole-rows, whole-list  which rows do that are all known
+--   whole-known, whole-rows, whole-list  which rows do that are all known
 -- Assumes nothing.
 use Prim.Native.Nat.{ℕ, zero, suc, _+_, _-_, _*_, _≤_, _<_}
 use native.Mathlib.Nat.{mod-eq-of-lt}
@@ -25,7 +25,7 @@ use lib.ListN.{length, take, drop, length-append}
 use lib.Seq.{getD-take, getD-drop}
 use Rattle.numbers.specs.Words.{word, tabulate, allTo, all, firstLarge, outside, lowWord, rising}
 use Rattle.numbers.specs.internal.Facts.{AllBelow, Rising}
-use Rattle.numbers.specs.Refusals.{Check, check, judge, refusal, modulusChecks, unreduced, widthCheck}
+use Rattle.numbers.specs.Refusals.{Check, check, judge, refusal, modulusChecks, unreduced, degreeCheck, widthCheck}
 use Rattle.numbers.specs.declared.refusal.Verdict.the-variants.{Pass, Refuse}
 use Rattle.numbers.proofs.WordsLaws.{length-tabulate, word-tabulate, below-append, large-first, large-second, large-le}
 use Rattle.numbers.proofs.TestsLaws.{eqs, allTo-false, allTo-ext, rising-passes, rising-are}
@@ -105,7 +105,7 @@ pub record PolynomialPass (g : Given) : Type 0 where
 pub polynomial-pass : (g : Given) → judge (polynomialChecks g) ≡ Pass → PolynomialPass g
 polynomial-pass g pass =
     let m = pass-parts (modulusChecks (g .p)) (sizeChecks g) pass in
-    let c₃ = pass-check (check 3 (outside 1 largestDegree (g .D)) 0) _ (m .1) in
+    let c₃ = pass-check (degreeCheck (g .D)) _ (m .1) in
     let d = inside 1 largestDegree (g .D) (c₃ .0) in
     let c₄ = pass-check (widthCheck (g .N)) _ (c₃ .1) in
     let n = inside 1 largestWidth (g .N) (c₄ .0) in
@@ -129,7 +129,7 @@ polynomial-pass g pass =
 pub polynomial-passes : (g : Given) → PolynomialPass g → judge (polynomialChecks g) ≡ Pass
 polynomial-passes g h =
     after-pass (modulusChecks (g .p)) (sizeChecks g) (modulus-fine (g .p) (h .modulus .prime) (h .small))
-    ∙ skip-check (check 3 (outside 1 largestDegree (g .D)) 0) _ (within 1 largestDegree (g .D) (h .degree-low) (h .degree-high))
+    ∙ skip-check (degreeCheck (g .D)) _ (within 1 largestDegree (g .D) (h .degree-low) (h .degree-high))
     ∙ skip-check (widthCheck (g .N)) _ (within 1 largestWidth (g .N) (h .width-low) (h .width-high))
     ∙ skip-check (longCheck g) _ (rw (eq-eqb _ _ (h .long), eq-eqb _ _ (h .lengths-long)) refl)
     ∙ skip-check (wordsCheck g) [] (below-reduced (g .p) (g .rows ++ g .roots) (append-below (g .p) (g .rows) (g .roots) (h .rows-below) (h .roots-below)))
@@ -265,7 +265,7 @@ module _ (g : Given) (rows : List ℕ) (long : length rows ≡ (g .D + 1) * g .N
   whole-long : length whole ≡ g .D
   whole-long = length-tabulate (g .D) (λ _. g .N)
 
-  whole-known : 1 ≤ g .N → (j : ℕ) → j < g .D → KnownTo (g .N) (word whole j) (rowsAt rows 0 (g .N) j)
+  pub whole-known : 1 ≤ g .N → (j : ℕ) → j < g .D → KnownTo (g .N) (word whole j) (rowsAt rows 0 (g .N) j)
   whole-known one j l =
       subst (λ n. KnownTo (g .N) n (rowsAt rows 0 (g .N) j)) (sym (word-tabulate (g .D) (λ _. g .N) j l))
       (record { low = one; high = omega arith; rest = λ t u v. absurd (let z : ⊥ = omega arith in z) })

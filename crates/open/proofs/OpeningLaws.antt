@@ -11,7 +11,6 @@
 use Prim.Native.Nat.{ℕ, _+_, _*_, _≤_, _<_}
 use native.Mathlib.Omega.{arith}
 use mathlib.Core.Path.{_≡_, refl, sym, _∙_, ap, ap₂, subst, fun-ext}
-use mathlib.Core.Bool.{false}
 use mathlib.Core.Option.{Option, none, some}
 use mathlib.Core.List.{List, [], _++_}
 use borrow.Author.Tests.{ltb-false}
@@ -21,7 +20,7 @@ use lib.Seq.{take-length, drop-at}
 use Rattle.numbers.specs.Words.{word, over}
 use Rattle.numbers.specs.Refusals.{Check, check, judge, roomCheck}
 use Rattle.numbers.specs.declared.refusal.Verdict.the-variants.{Pass}
-use Rattle.numbers.proofs.WordsLaws.{true-false, length-over}
+use Rattle.numbers.proofs.WordsLaws.{length-over}
 use Rattle.numbers.proofs.TestsLaws.{allTo-ext}
 use Rattle.numbers.proofs.RefusalsLaws.{pass-parts, pass-check, reduced}
 use Rattle.hensel.specs.Factors.{split}
@@ -36,11 +35,7 @@ use Rattle.sheet.proofs.UniqueLaws.{holds-unique}
 use Rattle.sheet.proofs.BuildLaws.{solved, solved-good, start-good}
 use Rattle.open.proofs.OpenChecksLaws.{ListPass, list-pass, list-passes, open-rows-split}
 use Rattle.open.proofs.OpenSplitLaws.{split-some, room-pass}
-use Rattle.open.proofs.OpenLaws.{powers-are, needed-is}
-
-some-of : (o : Option (List ℕ)) → isNone o ≡ false → (l : List ℕ) × (o ≡ some l)
-some-of none e = true-false e
-some-of (some l) e = (l, refl)
+use Rattle.open.proofs.OpenLaws.{some-of, powers-are, needed-is}
 
 -- the powers found, or none
 abbrev pub orNil : Option (List ℕ) → List ℕ

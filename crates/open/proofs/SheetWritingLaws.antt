@@ -18,6 +18,7 @@ use borrow.Author.Tests.{lt-ltb}
 use lib.ListN.{length, take, drop, length-append, length-drop}
 use lib.Seq.{length-take-le}
 use Rattle.algebra.specs.Sums.{sumTo}
+use Rattle.algebra.proofs.SumsLaws.{sumTo-count}
 use Rattle.numbers.specs.Words.{word, tabulate, over, least}
 use Rattle.numbers.proofs.WordsLaws.{Writing, writing-part, length-over, over-whole}
 use Rattle.numbers.specs.Limits.{largestDegree, largestWidth}
@@ -29,7 +30,7 @@ use Rattle.rows.proofs.RowsLaws.{rows-below, length-table, table-ext, table-row
 use Rattle.columns.proofs.ColumnLaws.{tabulate-words}
 use Rattle.layout.specs.Layout.{lengthsFrom, rootsFrom, polynomialFrom, factorsFrom, total, headerOf}
 use Rattle.layout.specs.internal.Places.{rootTable}
-use Rattle.layout.proofs.PlacesLaws.{count-sum, all-rows-small}
+use Rattle.layout.proofs.PlacesLaws.{all-rows-small}
 use Rattle.sheet.specs.Sheet.{Given, given-polynomial}
 use Rattle.sheet.specs.internal.Content.{size, entry, sheetWords}
 use Rattle.open.specs.Open.{powersOf, needed}
@@ -49,7 +50,7 @@ pub count-small : (g : Given) (powers : List ℕ) → FreshReady g powers → le
 count-small g powers h =
     let a = h .splits .degree in
     let b = h .degree-high in
-    omega (arith, count-sum (length (g .roots)) (word powers) (h .splits .powers))
+    omega (arith, sumTo-count (length (g .roots)) (word powers) (h .splits .powers))
 
 -- `&mut s[a..b]`
 lent : (s : List ℕ) (a b : ℕ) → a ≤ b → b ≤ length s → length (take (b - a) (drop a s)) ≡ b - a

@@ -1,5 +1,4 @@
 -- What open answers and leaves.
---   upwards n f        the lists f 1, f 2, .., f n, one after the other
 --   choices r D        the lists of r numbers, each 1 or more, whose sum is D
 --   find test ls       the first of the lists that passes the test, where there is one
 --   splitsTest g l     with these powers of its lines Y − c the polynomial at X = 0 is their product
@@ -19,25 +18,20 @@ use mathlib.Core.Option.{Option, none, some}
 use mathlib.Core.List.{List, [], _∷_, _++_, map}
 use lib.Dec.{eqb}
 use lib.ListN.{length, drop}
-use Rattle.numbers.specs.Words.{word, allTo, firstLarge, outside, lowWord, rising}
-use Rattle.numbers.specs.Refusals.{Check, check, judge, Outcome, result, modulusChecks, unreduced, widthCheck, roomCheck, Leaves}
+use Rattle.numbers.specs.Words.{word, allTo, firstLarge, outside, lowWord, rising, each}
+use Rattle.numbers.specs.Refusals.{Check, check, judge, Outcome, result, modulusChecks, unreduced, degreeCheck, widthCheck, roomCheck, Leaves}
 use Rattle.numbers.specs.declared.refusal.Verdict.{Verdict}
-use Rattle.numbers.specs.Limits.{largestDegree}
 use Rattle.series.specs.Known.{rowsKnown, unknownCheck}
 use Rattle.rows.specs.Rows.{unit}
 use Rattle.hensel.specs.Factors.{split}
 use Rattle.layout.specs.Layout.{total, end}
 use Rattle.sheet.specs.Sheet.{Given, given-polynomial, Holds}
 
-unfoldable pub upwards : ℕ → (ℕ → List (List ℕ)) → List (List ℕ)
-upwards zero f = []
-upwards (suc n) f = upwards n f ++ f (suc n)
-
 -- the lists of r numbers, each 1 or more, whose sum is D
 unfoldable pub choices : ℕ → ℕ → List (List ℕ)
 choices zero zero = [] ∷ []
 choices zero (suc D) = []
-choices (suc r) D = upwards D (λ m. map (λ l. m ∷ l) (choices r (D - m)))
+choices (suc r) D = each D (λ i. map (λ l. suc i ∷ l) (choices r (D - suc i)))
 
 unfoldable pub find : (List ℕ → Bool) → List (List ℕ) → Option (List ℕ)
 find test [] = none
@@ -61,7 +55,7 @@ needed g = total (g .D) (g .N) (length (g .roots))
 -- refusals 3 to 6: each row but row D has a known length
 abbrev pub sizeChecks : Given → List Check
 sizeChecks g =
-    check 3 (outside 1 largestDegree (g .D)) 0
+    degreeCheck (g .D)
     ∷ widthCheck (g .N)
     ∷ check 5 (not (eqb (length (g .rows)) ((g .D + 1) * g .N)) || not (eqb (length (g .lengths)) (g .D))) 0
     ∷ check 6 (unreduced (g .p) (g .rows ++ g .roots)) (lowWord (firstLarge (g .p) (g .rows ++ g .roots)))

@@ -9,13 +9,12 @@
 use mathlib.Core.Path.{_≡_, sym, ap, subst, _∙_}
 use mathlib.Core.Bool.{Bool, true, false}
 use mathlib.Core.List.{List}
-use Prim.Native.Nat.{ℕ, zero, suc, _+_, _-_, _≤_, _<_}
+use Prim.Native.Nat.{ℕ, zero, _+_, _-_, _≤_, _<_}
 use native.Mathlib.Nat.{le-refl}
 use native.Mathlib.Omega.{arith}
 use lib.ListN.{length, take, drop}
 use lib.Seq.{length-take-le, take-append-seam}
-use Rattle.algebra.specs.Sums.{sumTo}
-use Rattle.algebra.proofs.SumsLaws.{sumTo-zero}
+use Rattle.algebra.proofs.SumsLaws.{sumTo-some}
 use Rattle.numbers.specs.Words.{word, firstLarge, rising, over}
 use Rattle.numbers.specs.internal.Facts.{AllBelow, Rising}
 use Rattle.numbers.proofs.WordsLaws.{true-false, large-there}
@@ -50,11 +49,6 @@ pub found-unsplit : (p : ℕ) (e roots powers : List ℕ) → Unsplit p e → Fo
 found-unsplit p e roots powers u = record { fits = omega arith; yes = λ z. absurd (let y : ⊥ = omega arith in y); no = λ _. u }
 
 module _ (p : ℕ) (e : List ℕ) (monic : Monic p e) (n : ℕ) (roots powers : List ℕ) (found : Bool) (a : SplitAnswer p e (take n roots) found powers) where
-  -- some root is listed
-  some-listed : (r : ℕ) (m : ℕ → ℕ) → suc (sumTo r m) ≡ length e → 1 ≤ r
-  some-listed zero m z = absurd (let y = sumTo-zero m in let x = monic .some in let w : ⊥ = omega arith in w)
-  some-listed (suc r) m z = omega arith
-
   pub found-checked : n ≤ length roots → found ≡ true → FoundRoots p e n roots powers
   found-checked l t =
       let (up, low, G) = a .yes t in
@@ -62,7 +56,7 @@ module _ (p : ℕ) (e : List ℕ) (monic : Monic p e) (n : ℕ) (roots powers : 
       record {
         fits = l;
         yes = λ _. (sym all, subst (λ x. GivesPowers p x e (word powers)) (sym all) G);
-        no = λ z _ _ _. let k = some-listed (length (take n roots)) (word powers) (G .sum) in let y = length-take-le n roots l in let w : ⊥ = omega arith in w;
+        no = λ z _ _ _. let k = sumTo-some (length (take n roots)) (word powers) (omega (arith, G .sum, monic .some)) in let y = length-take-le n roots l in let w : ⊥ = omega arith in w;
       }
 
   pub found-scanned : take n roots ≡ allRoots p e → found ≡ false → FoundRoots p e zero roots powers

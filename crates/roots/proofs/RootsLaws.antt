@@ -2,6 +2,7 @@
 --   value-horner        the value of a list of words, as Horner's scheme has it
 --   rootsBelow p e n    the roots below n
 --   root-value          a number is a root exactly where the polynomial over F_p is 0 there
+--   all-rising          the list of all roots passes the test of a rising list
 --   roots-rise, roots-below, roots-few   all roots rise, are below p, and are at most as many as the degree says
 --   roots-complete      numbers below p that rise, with powers that give the polynomial, are all its roots
 --   any-order           where some list of numbers, in any order and with repetitions, has such powers, the list of all roots has
@@ -29,9 +30,10 @@ use Rattle.algebra.proofs.Chain.{at-zero-nonroot, nonroot-some, rising-distinct
 use Rattle.algebra.proofs.Roots.{root-count, at-zero-root-at, Powered, powered-cast, product-in}
 use Rattle.algebra.proofs.FpLaws.{p-pos, Fp-field}
 use Rattle.algebra.proofs.BridgeLaws.{same-rem, rem-zero, rem-one}
-use Rattle.numbers.specs.Words.{word, allWhere}
+use Rattle.numbers.specs.Words.{word, rising, allWhere}
 use Rattle.numbers.specs.internal.Facts.{AllBelow, Rising}
 use Rattle.numbers.proofs.WordsLaws.{lt-or-ge}
+use Rattle.numbers.proofs.TestsLaws.{rising-passes}
 use Rattle.numbers.proofs.ListedLaws.{At, Absent, at-or-not, Listed, where-listed, listed-is}
 use Rattle.columns.specs.internal.Column.{hornerWord}
 use Rattle.columns.proofs.ColumnLaws.{horner-word-suc, horner-word-none, horner-word-below}
@@ -53,6 +55,9 @@ value-horner p c (a ∷ e) =
 
 abbrev pub rootsBelow : (p : ℕ) → List ℕ → ℕ → List ℕ
 rootsBelow p e n = allWhere (isRoot p e) 0 n
+
+pub all-rising : (p : ℕ) (e : List ℕ) → rising (allRoots p e) ≡ true
+all-rising p e = sym (rising-passes (allRoots p e) (length (allRoots p e)) (omega arith) (where-listed (isRoot p e) 0 p .rising))
 
 module _ {p : ℕ} (prime : Prime p) (e : List ℕ) where
   abbrev pos : zero < p

@@ -4,7 +4,7 @@
 -- Assumes nothing.
 use mathlib.Core.Path.{_≡_, sym, subst, _∙_, ap}
 use mathlib.Core.List.{List, [], _∷_, _++_}
-use Prim.Native.Nat.{ℕ, zero, suc, _+_, _-_, _≤_, _<_}
+use Prim.Native.Nat.{ℕ, _+_, _-_, _≤_, _<_}
 use native.Mathlib.Numerals.{add-one}
 use native.Mathlib.Omega.{arith}
 use lib.ListN.{length, take, set, length-take, length-append}
@@ -15,6 +15,7 @@ use Rattle.numbers.specs.Limits.{largestDegree, mostRows}
 use Rattle.numbers.specs.internal.Facts.{AllBelow}
 use Rattle.numbers.specs.internal.Limits.{modulusBound}
 use Rattle.numbers.proofs.WordsLaws.{length-over}
+use Rattle.series.proofs.CheckLaws.{one-below}
 use Rattle.columns.proofs.ColumnLaws.{append-below}
 use Rattle.modulo.specs.internal.Modulo.{ModulusOf}
 use Rattle.roots.proofs.FoundLaws.{over-take}
@@ -27,10 +28,6 @@ within r n s h = omega (arith, length-take n s)
 
 module _ (p : ℕ) (prime : Prime p) (small : p < modulusBound) (piece : List ℕ) (some : 1 ≤ length piece) (few : length piece ≤ largestDegree)
     (below : AllBelow p piece) where
-  one-below : AllBelow p (1 ∷ [])
-  one-below zero l = prime .two-le
-  one-below (suc k) l = absurd (let z : ⊥ = omega arith in z)
-
   pub piece-modulus : (old f : List ℕ) (k : ℕ) → length old ≡ mostRows → f ≡ over piece old → k ≡ length piece
       → ModulusOf p (take (length piece + 1) (set f (length piece) 1)) k
   piece-modulus old f k n e q =
@@ -45,6 +42,6 @@ module _ (p : ℕ) (prime : Prime p) (small : p < modulusBound) (piece : List �
         some = omega arith;
         few = omega arith;
         long = ap length is ∙ length-append piece (1 ∷ []) ∙ ap (λ i. i + 1) (sym q);
-        below = subst (AllBelow p) (sym is) (append-below p piece (1 ∷ []) below one-below);
+        below = subst (AllBelow p) (sym is) (append-below p piece (1 ∷ []) below (one-below p (prime .two-le)));
         top = ap (λ s. word s k) is ∙ getD-at piece 1 [] 0 k (sym q);
       }

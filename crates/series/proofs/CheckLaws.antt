@@ -18,7 +18,7 @@ use Rattle.numbers.specs.declared.refusal.Verdict.the-variants.{Pass, Refuse}
 use Rattle.numbers.specs.declared.refusal.Answer.{Answer}
 use Rattle.numbers.specs.declared.refusal.Answer.the-variants.{Refused}
 use Rattle.numbers.proofs.WordsLaws.{take-below}
-use Rattle.numbers.proofs.RefusalsLaws.{after-pass, after-refuse, pass-check, take-check, skip-check, pass-parts, none-judged, both, Inputs, inputs-pass, operation-pass, answer-refused, answer-done}
+use Rattle.numbers.proofs.RefusalsLaws.{after-pass, pass-check, take-check, skip-check, pass-parts, none-judged, both, Inputs, inputs-pass, operation-pass, answer-refused, answer-done}
 use Rattle.numbers.specs.internal.Limits.{modulusBound}
 use Rattle.numbers.specs.Limits.{largestWidth}
 use Rattle.series.specs.Known.{KnownTo, knownTo, unknownCheck}
@@ -28,9 +28,6 @@ use Rattle.series.proofs.KnownLaws.{known-test}
 -- where a call made the refusal
 pub answer-told : {v : Verdict} (a : Answer) (r : Refusal) (n : ℕ) (new old : List ℕ) → a ≡ Refused r → v ≡ Refuse r → (outcome a ≡ result v n) × (old ≡ written v new old)
 answer-told a r n new old w e = rw w (answer-refused r n new old e)
-
-pub after-told : (cs ds : List Check) (v : Verdict) (r : Refusal) → v ≡ judge cs → v ≡ Refuse r → judge (cs ++ ds) ≡ Refuse r
-after-told cs ds v r e q = after-refuse cs ds r (sym e ∙ q)
 
 -- what a pass says of two series, as the kernels require it
 module _ (p N : ℕ) (g h : List ℕ) (room : ℕ) (e : judge (seriesChecks p N g h room) ≡ Pass) where

@@ -10,11 +10,11 @@ use mathlib.Core.Bool.{not}
 use mathlib.Core.List.{List, [], _++_}
 use borrow.Author.Tests.{not-false, leb-false}
 use lib.Dec.{leb}
+use Rattle.algebra.proofs.SumsLaws.{sumTo-count}
 use Rattle.numbers.specs.Words.{over}
 use Rattle.numbers.specs.Refusals.{Check, check, judge, Outcome, result, written}
 use Rattle.numbers.specs.declared.refusal.Verdict.the-variants.{Pass}
 use Rattle.numbers.proofs.RefusalsLaws.{pass-check, after-pass}
-use Rattle.layout.proofs.PlacesLaws.{count-sum}
 use Rattle.layout.specs.Layout.{count, power, factorPart}
 use Rattle.layout.specs.internal.Places.{Placed}
 use Rattle.sheet.specs.Sheet.{Sound}
@@ -35,7 +35,7 @@ pub sound-placed : (s : List ℕ) → Sound s → Placed s
 sound-placed s h = record {
   degree-high = h .degree-high;
   width-high = h .width-high;
-  count-high = omega (arith, count-sum (count s) (power s) (h .factors .powers), h .factors .degree, h .degree-high);
+  count-high = omega (arith, sumTo-count (count s) (power s) (h .factors .powers), h .factors .degree, h .degree-high);
   powers-sum = h .factors .degree;
   long = h .long;
 }

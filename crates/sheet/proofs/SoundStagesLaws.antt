@@ -14,12 +14,11 @@ use native.Mathlib.Omega.{arith}
 use lib.Dec.{ltb}
 use lib.ListN.{length}
 use Rattle.algebra.specs.Sums.{sumTo}
-use Rattle.algebra.proofs.SumsLaws.{sumTo-zero}
+use Rattle.algebra.proofs.SumsLaws.{sumTo-zero, sumTo-count}
 use Rattle.numbers.specs.Words.{word, choose, part, upTo}
 use Rattle.numbers.specs.internal.Facts.{Decides}
 use Rattle.numbers.proofs.TestsLaws.{decided-test}
 use Rattle.numbers.proofs.WordsLaws.{lt-or-ge, word-part, up-low, up-high, least-le}
-use Rattle.layout.proofs.PlacesLaws.{count-sum}
 use Rattle.layout.proofs.RegionsLaws.{rowPart, row-word, row-long}
 use Rattle.rows.proofs.RowsLaws.{row-fits}
 use Rattle.hensel.specs.Factors.{IsFactors}
@@ -101,7 +100,7 @@ module _ (s : List ℕ) (h : Sound s) where
       terms-high = h .terms-high;
       reach-high = omega (arith, h .reached, least-le (width s) (known s) (degree s));
       count-low = count-low;
-      count-high = omega (arith, count-sum (count s) (power s) (h .factors .powers), h .factors .degree);
+      count-high = omega (arith, sumTo-count (count s) (power s) (h .factors .powers), h .factors .degree);
     };
     powers = record { each = h .factors .powers; sum = h .factors .degree };
     offsets = record {

@@ -2,16 +2,20 @@
 --   prime-test     primeTest and Prime
 --   factors-test   factorsTest and IsFactors
 --   sound-test     soundTest and Sound
+--   spoiled-first, sound-first, passed-first   refusal 13 before other checks
 -- Assumes nothing.
 use Prim.Native.Nat.{ℕ, suc, _-_, _≤_, _<_}
 use native.Mathlib.Omega.{arith}
-use mathlib.Core.Path.{_≡_, refl, sym}
+use mathlib.Core.Path.{_≡_, refl, sym, ap}
 use mathlib.Core.Logic.{_↔_}
-use mathlib.Core.Bool.{Bool, true, false}
-use mathlib.Core.List.{List}
-use borrow.Author.Tests.{leb-true, le-leb, ltb-true, lt-ltb, eqb-true, eq-eqb}
+use mathlib.Core.Bool.{Bool, true, false, not}
+use mathlib.Core.List.{List, _∷_}
+use borrow.Author.Tests.{leb-true, le-leb, ltb-true, lt-ltb, eqb-true, eq-eqb, not-false}
 use Rattle.algebra.specs.Prime.{Prime}
 use Rattle.numbers.specs.Divisor.{leastDivisor}
+use Rattle.numbers.specs.Refusals.{Check, judge, refusal}
+use Rattle.numbers.specs.declared.refusal.Verdict.the-variants.{Pass, Refuse}
+use Rattle.numbers.proofs.RefusalsLaws.{pass-check, take-check, skip-check}
 use Rattle.numbers.proofs.WordsLaws.{true-false}
 use Rattle.numbers.proofs.TestsLaws.{all-at, _&_, none-left, all-of, allTo-at, at-allTo, eqs, square, lower, past}
 use Rattle.numbers.proofs.DivisorLaws.{least-prime, prime-least}
@@ -21,6 +25,7 @@ use Rattle.numbers.specs.Words.{word}
 use Rattle.layout.specs.Layout.{modulus, degree, width, terms, power, root, known, lengthsFrom, polynomial, factorRows}
 use Rattle.sheet.specs.Sheet.{Sound}
 use Rattle.sheet.specs.Test.{primeTest, factorsTest, headerTest, bodyTest, soundTest}
+use Rattle.sheet.specs.Reading.{soundCheck}
 
 pub prime-test : (p : ℕ) → (primeTest p ≡ true) ↔ Prime p
 unfolding primeTest
@@ -119,3 +124,18 @@ module _ (s : List ℕ) where
         & none-left
         )),
   )
+
+-- a call that is lent a sheet judges it first, and then by its own checks
+module _ (s : List ℕ) (cs : List Check) where
+  pub spoiled-first : ¬ Sound s → judge (soundCheck s ∷ cs) ≡ Refuse (refusal 13 0)
+  spoiled-first h = go (soundTest s) refl
+    where
+      go : (b : Bool) → soundTest s ≡ b → judge (soundCheck s ∷ cs) ≡ Refuse (refusal 13 0)
+      go true e = absurd (h (sound-test s .0 e))
+      go false e = take-check (soundCheck s) cs (ap not e)
+
+  pub sound-first : Sound s → judge (soundCheck s ∷ cs) ≡ judge cs
+  sound-first h = skip-check (soundCheck s) cs (ap not (sound-test s .1 h))
+
+  pub passed-first : judge (soundCheck s ∷ cs) ≡ Pass → Sound s × (judge cs ≡ Pass)
+  passed-first e = let a = pass-check (soundCheck s) cs e in (sound-test s .0 (not-false (soundTest s) (a .0)), a .1)

@@ -9,7 +9,7 @@ use native.Mathlib.Omega.{arith}
 use lib.ListN.{length, take, drop, length-drop, length-append, List·getD-append}
 use lib.Seq.{getD-drop, getD-take, length-take-le, drop-at}
 use Rattle.algebra.specs.Sums.{sumTo}
-use Rattle.algebra.proofs.SumsLaws.{sumTo-zero, sumTo-suc, sumTo-ext, sumTo-append, sumTo-mono}
+use Rattle.algebra.proofs.SumsLaws.{sumTo-zero, sumTo-suc, sumTo-ext, sumTo-append, sumTo-mono, sumTo-count}
 use Rattle.algebra.specs.internal.Ring.{CommRing, prod, mul-one, one-mul, mul-assoc}
 use Rattle.algebra.proofs.RingLaws.{prod-zero, prod-suc}
 use Rattle.algebra.specs.internal.Series.{Series}
@@ -426,11 +426,7 @@ module _ (p N w : ℕ) (powers c s s1 : List ℕ) (h : NodeReady p N w powers c 
 
 -- how many groups there are, and how large their powers
 pub count-room : (powers c : List ℕ) → Roots powers c → length powers ≤ length c
-count-room powers c h = let z = at-least (length powers) (λ i l. h .some i l) in let e = h .sum in omega arith
-  where
-    at-least : (n : ℕ) → ((i : ℕ) → i < n → 1 ≤ word powers i) → n ≤ sumTo n (word powers)
-    at-least zero g = omega arith
-    at-least (suc n) g = let z = at-least n (λ i l. g i (omega arith)) in let y = g n (omega arith) in omega (arith, sumTo-suc n (word powers))
+count-room powers c h = let z = sumTo-count (length powers) (word powers) (h .some) in let e = h .sum in omega arith
 
 pub power-room : (powers c : List ℕ) → Roots powers c → (i : ℕ) → i < length powers → word powers i ≤ length c
 power-room powers c h i l = let z = sumTo-suc i (word powers) in let y = sumTo-mono (suc i) (length powers) (word powers) l in let e = h .sum in omega arith

@@ -4,7 +4,7 @@ use native.Mathlib.Omega.{arith}
 use mathlib.Core.Path.{_≡_, refl}
 use Rattle.algebra.specs.Sums.{sumTo}
 use Rattle.numbers.specs.Limits.{largestModulus}
-use Rattle.numbers.specs.Words.{outside, firstWhere, firstNonzero, firstLarge, allTo, all, allWhere, tabulate, least}
+use Rattle.numbers.specs.Words.{outside, firstWhere, firstNonzero, firstLarge, allTo, all, allWhere, tabulate, each, least}
 use Rattle.numbers.specs.Divisor.{leastDivisor, inverseOf}
 use Rattle.numbers.specs.Refusals.{check, refusal, judge, modulusChecks}
 use Rattle.numbers.specs.declared.refusal.Verdict.the-variants.{Pass, Refuse}
@@ -20,13 +20,14 @@ use Rattle.pair.specs.Test.{productTest, pairTest}
 use Rattle.pair.specs.Paired.{held}
 use Rattle.hensel.specs.Factors.{product}
 use Rattle.sheet.specs.Test.{primeTest, factorsTest, headerTest, bodyTest, soundTest}
-use Rattle.open.specs.Open.{upwards, choices, find, splitsTest, powersOf, needed, openVerdict}
+use Rattle.open.specs.Open.{choices, find, splitsTest, powersOf, needed, openVerdict}
 use Rattle.roots.specs.Roots.{value}
 use Rattle.open.specs.Find.{findVerdict}
 use Rattle.extend.specs.Extend.{extendVerdict}
 use Rattle.correct.specs.Correct.{isEntry, correctVerdict}
 use Rattle.calls.specs.Calls.{countAnswer, countAnswers, countEnd}
 use Rattle.calls.specs.Replay.{callFits, callsTo, replayVerdict}
+use Rattle.counts.specs.Counts.{lists, count, subsets, counted}
 use Rattle.text.specs.Decimal.{digits, digitsWithin}
 use Rattle.text.specs.Text.{listingText, headLine, rootLine, rowLine, rowLines, factorText, joinTo, numbersText, moreNumbers}
 use Rattle.job.specs.Job.{number, isWide, fieldsFrom, fieldSize, field}
@@ -46,5 +47,5 @@ out-of-range : judge (modulusChecks 16777216) ≡ Refuse (refusal 1 0)
 out-of-range = take-check (check 1 (outside 2 largestModulus 16777216) 0) _ refl
 
 pub starred : Starred
-unfolding judge leastDivisor inverseOf firstWhere firstNonzero firstLarge allTo all sumTo rowsOf mul monic orderOf rowsBelow productTest pairTest held linePower product primeTest factorsTest headerTest bodyTest soundTest upwards choices find splitsTest powersOf needed openVerdict extendVerdict number isWide fieldsFrom fieldSize field jobGiven listVerdict listingText headLine rootLine rowLine rowLines factorText joinTo tabulate least knownTo rowsKnown sums productColumn series.product quotientColumn quotient quotientWords digits digitsWithin numbersText moreNumbers value allWhere findVerdict isEntry correctVerdict callFits callsTo replayVerdict countAnswer countAnswers countEnd
-starred = (refl, refl, refl, refl, refl, refl, refl, refl, refl, refl, refl, refl, refl, refl, refl, refl, refl, refl, refl, refl, refl, refl, refl, refl, refl, refl, refl, largest-prime, largest-composite, out-of-range, refl, refl, refl, refl, refl, refl, refl, refl, refl, refl, refl, refl, refl, refl, refl, refl, refl, refl, refl, refl, refl, refl, refl, refl, refl, refl, refl, refl, refl, refl, refl, refl, refl, refl, refl, refl, refl, refl, refl, refl, refl, refl, refl, refl, refl, refl, refl, refl, refl)
+unfolding judge leastDivisor inverseOf firstWhere firstNonzero firstLarge allTo all sumTo rowsOf mul monic orderOf rowsBelow productTest pairTest held linePower product primeTest factorsTest headerTest bodyTest soundTest each choices find splitsTest powersOf needed openVerdict extendVerdict number isWide fieldsFrom fieldSize field jobGiven listVerdict listingText headLine rootLine rowLine rowLines factorText joinTo tabulate least knownTo rowsKnown sums productColumn series.product quotientColumn quotient quotientWords digits digitsWithin numbersText moreNumbers value allWhere findVerdict isEntry correctVerdict callFits callsTo replayVerdict countAnswer countAnswers countEnd lists count subsets counted
+starred = (refl, refl, refl, refl, refl, refl, refl, refl, refl, refl, refl, refl, refl, refl, refl, refl, refl, refl, refl, refl, refl, refl, refl, refl, refl, refl, refl, largest-prime, largest-composite, out-of-range, refl, refl, refl, refl, refl, refl, refl, refl, refl, refl, refl, refl, refl, refl, refl, refl, refl, refl, refl, refl, refl, refl, refl, refl, refl, refl, refl, refl, refl, refl, refl, refl, refl, refl, refl, refl, refl, refl, refl, refl, refl, refl, refl, refl, refl, refl, refl, refl, refl, refl, refl, refl, refl, refl, refl, refl, refl, refl)

@@ -6,7 +6,6 @@ use native.Mathlib.Omega.{arith}
 use mathlib.Core.Path.{_≡_, refl, sym, _∙_, ap, subst}
 use mathlib.Core.List.{List, [], _∷_}
 use lib.Seq.{take-all}
-use lib.ListN.{length}
 use borrow.Author.Tests.{eqb-true, eqb-false, eq-eqb, leb-false}
 use Rattle.series.proofs.CheckLaws.{one-below}
 use Rattle.algebra.proofs.FpLaws.{p-pos}
@@ -15,7 +14,6 @@ use Rattle.numbers.specs.Refusals.{judge, operationChecks, inputChecks}
 use Rattle.numbers.specs.One.{TheOne}
 use Rattle.numbers.specs.declared.refusal.Verdict.the-variants.{Pass}
 use Rattle.numbers.proofs.WordsLaws.{word-tabulate, tabulate-ext, least-at, least-there}
-use Rattle.numbers.proofs.TestsLaws.{rising-passes}
 use Rattle.numbers.proofs.ListedLaws.{where-listed}
 use Rattle.numbers.proofs.RefusalsLaws.{operation-pass, inputs-pass, pass-parts, pass-check, reduced, below-reduced}
 use Rattle.series.specs.Series.{IsSeries, inverseChecks, productColumn, product, quotient}
@@ -28,6 +26,7 @@ use Rattle.rows.proofs.ShiftLaws.{row-shift-back, row-shift-product}
 use Rattle.pair.proofs.PairWordsLaws.{pair-test}
 use Rattle.pair.proofs.OneLaws.{paired-one, paired-afresh, paired-keeps, paired-goes}
 use Rattle.roots.specs.Roots.{value, isRoot, allRoots}
+use Rattle.roots.proofs.RootsLaws.{all-rising}
 use Rattle.sheet.proofs.SoundTestLaws.{sound-test}
 use Rattle.open.specs.Open.{needed}
 use Rattle.open.proofs.OpeningLaws.{open-ready, sheet-exists}
@@ -40,10 +39,11 @@ use Rattle.calls.proofs.Demand3Laws.{demand3, calls-same}
 use Rattle.calls.proofs.CorrectedLaws.{correct-afresh}
 use Rattle.calls.proofs.OneLaws.{run-one, count-largest, replayed-one}
 use Rattle.calls.proofs.FillingLaws.{filled-opens, filled-same, filled-own, filled-apart}
+use Rattle.counts.proofs.CountsLaws.{counts-formula, counts-total, counts-find}
 use Rattle.job.specs.Limits.{jobRoom}
 use Rattle.job.proofs.JobLaws.{narrow-reads}
 use Rattle.listing.proofs.ListingLaws.{one-listing, listed-only, listing-cut}
-use Rattle.theorems.specs.Theorems.{PairTheorems, SheetTheorems, FindTheorems, CallTheorems, KnownTheorems, RowTheorems, Theorems}
+use Rattle.theorems.specs.Theorems.{PairTheorems, SheetTheorems, FindTheorems, CountTheorems, CallTheorems, KnownTheorems, RowTheorems, Theorems}
 
 pair-theorems : PairTheorems
 pair-theorems = record {
@@ -72,13 +72,16 @@ find-theorems = record {
   find-nine = λ g pass room. nine g room pass;
   find-opens = found-opened;
   open-finds = opened-found;
-  roots-rise = λ p e. sym (rising-passes (allRoots p e) (length (allRoots p e)) (omega arith) (where-listed (isRoot p e) 0 p .rising));
+  roots-rise = all-rising;
   roots-are = λ p e c.
       let h = where-listed (isRoot p e) 0 p in (
         λ (i, l, q). (let z = h .high i l in omega arith, subst (λ x. value p x e ≡ 0) q (eqb-true (value p (word (allRoots p e) i) e) 0 (h .holds i l))),
         λ (l, z). h .all c (omega arith) (omega arith) (eq-eqb (value p c e) 0 z),
       );
 }
+
+count-theorems : CountTheorems
+count-theorems = record { counts-formula = counts-formula; counts-total = counts-total; counts-find = counts-find }
 
 call-theorems : CallTheorems
 call-theorems = record {
@@ -145,4 +148,4 @@ row-theorems = record {
 }
 
 pub theorems : Theorems
-theorems = (pair-theorems, sheet-theorems, find-theorems, call-theorems, known-theorems, row-theorems)
+theorems = (pair-theorems, sheet-theorems, find-theorems, count-theorems, call-theorems, known-theorems, row-theorems)

@@ -23,6 +23,7 @@ use Rattle.extend.specs.Extend.{extendVerdict}
 use Rattle.correct.specs.Correct.{correctVerdict, corrected}
 use Rattle.calls.specs.Calls.{counting, countAnswers, countEnd}
 use Rattle.calls.specs.Replay.{callsTo, replayVerdict}
+use Rattle.counts.specs.Counts.{subsets, countWords, countsChecks}
 use Rattle.text.specs.Text.{bytes, listingText}
 use Rattle.listing.specs.Listing.{jobGiven, rooted, listVerdict}
 
@@ -205,3 +206,14 @@ Starred =
     × (replayVerdict 32 (32 ∷ 0 ∷ 2 ∷ 0 ∷ []) 12 ≡ Refuse (refusal 5 0))
     × (replayVerdict 32 (32 ∷ 2 ∷ 2 ∷ 0 ∷ 0 ∷ []) 12 ≡ Refuse (refusal 5 0))
     × (replayVerdict 32 (32 ∷ 0 ∷ 2 ∷ 0 ∷ 1 ∷ []) 12 ≡ Refuse (refusal 5 0))
+    -- of the nine quadratics over 3 three are of each kind, and of the eight cubics over 2 half do not split
+    × (countWords 3 2 ≡ 3 ∷ 3 ∷ 3 ∷ [])
+    × (countWords 2 3 ≡ 4 ∷ 2 ∷ 2 ∷ 0 ∷ [])
+    × (subsets 5 2 ≡ 10)
+    -- degrees 0 and 33 are 3; 65,536 polynomials are counted, and more are 24, before 10
+    × (judge (countsChecks 2 0 1) ≡ Refuse (refusal 3 0))
+    × (judge (countsChecks 2 33 0) ≡ Refuse (refusal 3 0))
+    × (judge (countsChecks 2 16 17) ≡ Pass)
+    × (judge (countsChecks 2 16 16) ≡ Refuse (refusal 10 17))
+    × (judge (countsChecks 2 17 0) ≡ Refuse (refusal 24 0))
+    × (judge (countsChecks 257 2 3) ≡ Refuse (refusal 24 0))

@@ -1,16 +1,17 @@
 -- The end theorems, in a row: what is promised of the calls, each with one plain sentence. `theorems` in proofs/TheoremsLaws proves them all.
---   PairTheorems, SheetTheorems, FindTheorems, CallTheorems, KnownTheorems, RowTheorems, Theorems   the theorems, and all of them
+--   PairTheorems, SheetTheorems, FindTheorems, CountTheorems, CallTheorems, KnownTheorems, RowTheorems, Theorems   the theorems, and all of them
 -- Assumes nothing.
-use Prim.Native.Nat.{ℕ, _+_, _-_, _*_, _%_, _≤_, _<_}
+use Prim.Native.Nat.{ℕ, suc, _+_, _-_, _*_, _^_, _%_, _≤_, _<_}
 use mathlib.Core.Path.{_≡_}
 use mathlib.Core.Logic.{_↔_, _≢_}
-use mathlib.Core.Bool.{true}
+use mathlib.Core.Bool.{true, false}
 use mathlib.Core.List.{List, [], _∷_, _++_}
 use lib.ListN.{length, take}
 use Rattle.algebra.specs.Prime.{Prime}
+use Rattle.algebra.specs.Sums.{sumTo}
 use Rattle.numbers.specs.Words.{word, rising, tabulate}
 use Rattle.numbers.specs.Divisor.{inverseOf}
-use Rattle.numbers.specs.Refusals.{judge, refusal, Outcome, accepted}
+use Rattle.numbers.specs.Refusals.{judge, refusal, Outcome, accepted, unreduced}
 use Rattle.numbers.specs.One.{TheOne, One, OneOutcome}
 use Rattle.numbers.specs.declared.refusal.Verdict.the-variants.{Pass, Refuse}
 use Rattle.series.specs.Known.{KnownTo, knownTo}
@@ -31,6 +32,7 @@ use Rattle.calls.specs.Calls.{Call, Run, Lendable, counting, countAnswers, coun
 use Rattle.calls.specs.Afresh.{Afresh}
 use Rattle.calls.specs.Replay.{Replayed}
 use Rattle.calls.specs.Filling.{filled, Fills, SameFilled, OwnFilled, ApartFilled}
+use Rattle.counts.specs.Counts.{subsets, inY, splits, counted, countsChecks}
 use Rattle.job.specs.Limits.{jobRoom}
 use Rattle.job.specs.Job.{place, field}
 use Rattle.listing.specs.Listing.{IsListing, Listed}
@@ -80,6 +82,17 @@ pub record FindTheorems : Type 0 where
   -- All roots are listed, each once and rising: a number stands in the list exactly where it is below p and the polynomial has the value 0 there.
   pub roots-rise : (p : ℕ) (e : List ℕ) → rising (allRoots p e) ≡ true
   pub roots-are : (p : ℕ) (e : List ℕ) (c : ℕ) → ((i : ℕ) × (i < length (allRoots p e)) × (word (allRoots p e) i ≡ c)) ↔ ((c < p) × (value p c e ≡ 0))
+
+-- How often it splits.
+pub record CountTheorems : Type 0 where
+  -- Of the monic polynomials of degree D over F_p, C(p, r) · C(D − 1, r − 1) split with exactly r distinct roots, r from 1 up: as many as there are sets of r
+  -- roots and lists of their powers ..
+  pub counts-formula : (p D r : ℕ) → Prime p → 1 ≤ D → 1 ≤ r → counted p D r ≡ subsets p r * subsets (D - 1) (r - 1)
+  -- .. and with those that do not split they are all p^D polynomials.
+  pub counts-total : (p D : ℕ) → 1 ≤ D → sumTo (suc D) (counted p D) ≡ p ^ D
+  -- Those that are counted as not splitting are those that find, given them as they are, refuses by 9.
+  pub counts-find : (p D : ℕ) (f : List ℕ) → judge (countsChecks p D (D + 1)) ≡ Pass → length f ≡ D → unreduced p f ≡ false → (room : ℕ)
+      → (findVerdict (inY p D f) room ≡ Refuse (refusal 9 0)) ↔ (splits p D f ≡ false)
 
 -- Lists of calls, and jobs.
 pub record CallTheorems : Type 0 where
@@ -147,4 +160,4 @@ pub record RowTheorems : Type 0 where
       → rowShift p (D₁ + D₂) N (rowProduct p D₁ D₂ N f g) c ≡ rowProduct p D₁ D₂ N (rowShift p D₁ N f c) (rowShift p D₂ N g c)
 
 abbrev pub Theorems : Type 0
-Theorems = PairTheorems × SheetTheorems × FindTheorems × CallTheorems × KnownTheorems × RowTheorems
+Theorems = PairTheorems × SheetTheorems × FindTheorems × CountTheorems × CallTheorems × KnownTheorems × RowTheorems

@@ -9,8 +9,7 @@ use borrow.Author.Tests.{lt-ltb, le-ltb}
 use lib.ListN.{length}
 use Rattle.numbers.specs.Refusals.{judge, operationChecks, beyondCheck, behindCheck}
 use Rattle.numbers.specs.declared.refusal.Verdict.the-variants.{Pass}
-use Rattle.numbers.proofs.RefusalsLaws.{take-check, skip-check, none-judged, Operation, operation-pass}
-use Rattle.series.proofs.CheckLaws.{after-told}
+use Rattle.numbers.proofs.RefusalsLaws.{after-told, take-check, skip-check, none-judged, Operation, operation-pass}
 use Rattle.pair.specs.Pair.{order}
 use Rattle.pair.specs.Paired.{pairChecks}
 use Rattle.pair.proofs.AnswerLaws.{heldCheck, past-10, past-11, given-of}

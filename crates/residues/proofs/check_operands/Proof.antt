@@ -4,7 +4,7 @@ use mathlib.Core.Path.{_≡_, _∙_, sym}
 use mathlib.Core.List.{[], _∷_}
 use borrow.Author.Tests.{lt-ltb, le-ltb}
 use Rattle.numbers.specs.Refusals.{judge, modulusChecks, reducedCheck}
-use Rattle.numbers.proofs.RefusalsLaws.{after-pass, after-refuse, take-check, skip-check, none-judged}
+use Rattle.numbers.proofs.RefusalsLaws.{after-pass, after-told, take-check, skip-check, none-judged}
 use Rattle.residues.specs.Number.{operandChecks}
 use borrow.Author.Needs.{needs}
 use Rattle.residues.proofs.check_operands.Statement.{statement}
@@ -19,7 +19,7 @@ enum-told c = search needs
 returns : tie.Need-returns
 returns c =
     let t = c .enum-told .given in
-    t .1 ∙ sym (after-refuse (modulusChecks (c .before .before .before .before .args .p)) _ _ (sym (c .before .before .check-modulus .ensures) ∙ t .1))
+    t .1 ∙ sym (after-told (modulusChecks (c .before .before .before .before .args .p)) _ _ _ (c .before .before .check-modulus .ensures) (t .1))
 
 enum-told-2 : tie.Need-enum-told-2
 enum-told-2 c = search needs

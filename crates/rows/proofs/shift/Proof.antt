@@ -7,8 +7,8 @@ use native.Mathlib.Omega.{arith}
 use lib.ListN.{length}
 use Rattle.numbers.specs.Refusals.{judge, inputChecks}
 use Rattle.numbers.specs.declared.refusal.Verdict.the-variants.{Pass}
-use Rattle.numbers.proofs.RefusalsLaws.{Inputs, inputs-pass, answer-refused, answer-done, few-words}
-use Rattle.series.proofs.CheckLaws.{answer-told, after-told}
+use Rattle.numbers.proofs.RefusalsLaws.{after-told, Inputs, inputs-pass, answer-refused, answer-done, few-words}
+use Rattle.series.proofs.CheckLaws.{answer-told}
 use Rattle.rows.specs.Rows.{rowsOf, table, shifted, rowShift}
 use Rattle.rows.proofs.CheckLaws.{number-refused, space-refused, shift-passed}
 use borrow.Author.Needs.{needs}

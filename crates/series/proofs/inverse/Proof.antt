@@ -6,9 +6,9 @@ use native.Mathlib.Omega.{arith}
 use lib.ListN.{length}
 use Rattle.numbers.specs.Refusals.{judge, operationChecks}
 use Rattle.numbers.specs.declared.refusal.Verdict.the-variants.{Pass}
-use Rattle.numbers.proofs.RefusalsLaws.{Operation, operation-pass, answer-refused, answer-done}
+use Rattle.numbers.proofs.RefusalsLaws.{after-told, Operation, operation-pass, answer-refused, answer-done}
 use Rattle.series.specs.Series.{quotient}
-use Rattle.series.proofs.CheckLaws.{answer-told, after-told, unit-refused, unit-passed, one-below}
+use Rattle.series.proofs.CheckLaws.{answer-told, unit-refused, unit-passed, one-below}
 use borrow.Author.Needs.{needs}
 use Rattle.series.proofs.inverse.Statement.{statement}
 use Rattle.series.proofs.inverse.Tie as tie

@@ -8,10 +8,9 @@ use Rattle.numbers.specs.Words.{word, over}
 use Rattle.numbers.specs.Refusals.{judge}
 use Rattle.numbers.specs.declared.refusal.Verdict.the-variants.{Pass}
 use Rattle.numbers.proofs.WordsLaws.{nonzero-le}
-use Rattle.numbers.proofs.RefusalsLaws.{Operation, operation-pass}
+use Rattle.numbers.proofs.RefusalsLaws.{after-told, Operation, operation-pass}
 use Rattle.series.specs.Series.{seriesChecks}
 use Rattle.series.specs.Quotient.{leastPower, quotientWords}
-use Rattle.series.proofs.CheckLaws.{after-told}
 use Rattle.series.proofs.DividedLaws.{zero-refused, lower-refused, common-passed, divided-refused, divided-done}
 use borrow.Author.Needs.{needs}
 use Rattle.series.proofs.quotient.Statement.{statement}

@@ -8,8 +8,7 @@ use borrow.Author.Tests.{lt-ltb, le-ltb}
 use lib.ListN.{length, length-append}
 use Rattle.numbers.specs.Refusals.{judge, modulusChecks, shapeChecks, inputChecks, widthCheck, lengthsCheck, reducedCheck}
 use Rattle.numbers.specs.Limits.{mostRows, largestWidth}
-use Rattle.numbers.specs.declared.refusal.Verdict.the-variants.{Pass}
-use Rattle.numbers.proofs.RefusalsLaws.{after-pass, after-refuse, take-check, skip-check, none-judged, few-rows, inside, right-lengths, few-words}
+use Rattle.numbers.proofs.RefusalsLaws.{after-pass, after-told, take-check, skip-check, none-judged, few-rows, inside, right-lengths, few-words}
 use borrow.Author.Needs.{needs}
 use Rattle.numbers.proofs.judge.check_inputs.Statement.{statement}
 use Rattle.numbers.proofs.judge.check_inputs.Tie as tie
@@ -23,7 +22,7 @@ enum-told c = search needs
 returns : tie.Need-returns
 returns c =
     let t = c .enum-told .given in
-    t .1 ∙ sym (after-refuse (modulusChecks (c .before .before .before .before .before .args .p)) _ _ (sym (c .before .before .check-modulus .ensures) ∙ t .1))
+    t .1 ∙ sym (after-told (modulusChecks (c .before .before .before .before .before .args .p)) _ _ _ (c .before .before .check-modulus .ensures) (t .1))
 
 enum-told-2 : tie.Need-enum-told-2
 enum-told-2 c = search needs

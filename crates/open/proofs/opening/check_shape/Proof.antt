@@ -9,7 +9,7 @@ use lib.ListN.{length}
 use Rattle.numbers.specs.Refusals.{judge, refusal, modulusChecks, widthCheck}
 use Rattle.numbers.specs.Limits.{largestDegree, largestWidth}
 use Rattle.numbers.specs.declared.refusal.Verdict.the-variants.{Refuse}
-use Rattle.numbers.proofs.RefusalsLaws.{after-pass, after-refuse, take-check, skip-check, neither, inside, few-words}
+use Rattle.numbers.proofs.RefusalsLaws.{after-pass, after-told, take-check, skip-check, neither, inside, few-words}
 use Rattle.numbers.proofs.WordsLaws.{large-le}
 use Rattle.sheet.specs.Sheet.{Given, givenOf}
 use Rattle.open.specs.Open.{sizeChecks, polynomialChecks}
@@ -62,7 +62,7 @@ enum-told c = search needs
 returns : tie.Need-returns
 returns c =
     let t = c .enum-told .given in
-    t .1 ∙ sym (after-refuse (modulusChecks (c .before .before .before .before .before .before .args .p)) _ _ (sym (c .before .before .check-modulus .ensures) ∙ t .1))
+    t .1 ∙ sym (after-told (modulusChecks (c .before .before .before .before .before .before .args .p)) _ _ _ (c .before .before .check-modulus .ensures) (t .1))
 
 enum-told-2 : tie.Need-enum-told-2
 enum-told-2 c = search needs

@@ -1,0 +1,5 @@
+pub mod SubsetsLaws
+pub mod CheckLaws
+pub mod PolynomialsLaws
+pub mod CountsLaws
+pub mod CountingLaws
