@@ -25,8 +25,8 @@
 extern "C" {
 #endif
 
-/* Why a call is refused. Checks run in the order of the numbers, but 21 comes right after 6, and 24 right after 3; where a call is lent a sheet and takes from it
- * what it needs, 13 comes first, and 20 before 6. 17 to 19, 22 and 23 are not in use. */
+/* Why a call is refused. Checks run in the order of the numbers, but 17 to 19 come right after 4, 21 right after 6, and 24 right after 3; where a call is lent a
+ * sheet and takes from it what it needs, 13 comes first, and 20 before 6. 22 and 23 are not in use. */
 enum bk_refusal {
     BK_ACCEPTED = 0,
     BK_MODULUS_RANGE = 1, /* p is below 2 or above 16,777,215 */
@@ -45,6 +45,9 @@ enum bk_refusal {
     BK_BEYOND = 14,       /* the terms wanted are 0, more than n, or for a sheet more than its least known length */
     BK_BEHIND = 15,       /* the terms wanted are fewer than those there */
     BK_NO_FACTOR = 16,    /* there is no factor of this index */
+    BK_UNREADABLE = 17,   /* read: the text is no formula, or has more than 4,096 bytes */
+    BK_DEEP = 18,         /* read: the brackets are more than 32 deep */
+    BK_HIGH = 19,         /* read: some part of the formula has a degree above 32 in Y */
     BK_ENTRY = 20,        /* there is no such entry to correct */
     BK_KNOWN_TERMS = 21,  /* a count of known terms or a row's known length is outside 1..n, or a word past it is not 0 */
     BK_MANY = 24          /* counts: there are more than 65,536 polynomials */
@@ -74,6 +77,15 @@ uint64_t bk_rows_sum(uint32_t p, uint32_t d, uint32_t n, const uint32_t *f, size
 uint64_t bk_rows_difference(uint32_t p, uint32_t d, uint32_t n, const uint32_t *f, size_t f_count, const uint32_t *g, size_t g_count, uint32_t *out, size_t out_count);
 uint64_t bk_rows_product(uint32_t p, uint32_t d1, uint32_t d2, uint32_t n, const uint32_t *f, size_t f_count, const uint32_t *g, size_t g_count, uint32_t *out, size_t out_count);
 uint64_t bk_rows_shift(uint32_t p, uint32_t d, uint32_t n, const uint32_t *f, size_t f_count, uint32_t c, uint32_t *out, size_t out_count);
+
+/* A polynomial as it is typed, (Y^2-X)*(Y+3) - 2*X*Y for example: what the formula comes to modulo p and X^n. A sum is terms with + or - between them, and perhaps
+ * one sign before the first; a term is powers with * between them; a power is an element, or an element, ^ and a number up to 255; an element is a number of 1 to
+ * 9 decimal digits, X, Y, or a sum in brackets. Blanks may stand anywhere but inside a number; a 0 byte after the text is not to be counted. Anything to the power
+ * 0 is 1. The answer is the degree in Y, which is 0 for the polynomial 0. Rows 0 to the degree are written, (degree + 1)n words, so 33n words are always enough.
+ * Refused by 1, 2, 4, 17, 18, 19 or 10, in this order. 19 looks at every part by its value modulo p and X^n, also at parts that cancel later: at each element; where
+ * it is raised to a power, at that power and all lower ones from 1 up; at the product of each term's first factors, and the sum of each sum's first terms, however
+ * many. It calls itself for brackets, and needs at most 1 MB of stack, for texts made to need it; a usual one needs 0.4 MB. */
+uint64_t bk_read(uint32_t p, uint32_t n, const uint8_t *text, size_t text_count, uint32_t *out, size_t out_count);
 
 /* The Weierstrass pair f = P * A modulo X^w, in d + 1 rows: P's below its leading 1, then A's, columns from w up 0. The answer is the order of f, the
  * degree of P. With h = 0 it starts: whatever `out` holds is ignored, and all its rows are written. With h >= 1 it goes on from the pair of f to h terms,
@@ -120,6 +132,12 @@ uint64_t bk_counts(uint32_t p, uint32_t d, uint32_t *out, size_t out_count);
 /* The listing of a job file of either kind, with fields of 16 bits or, after a first word of 0, of 32. Where the job names no roots (r = 0) they are found. For a
  * refused job it is the one line `refused NUMBER DETAIL`. The answer is the number of bytes written; the only refusal of the call itself is 10. */
 uint64_t bk_list(const uint8_t *job, size_t job_count, uint8_t *out, size_t out_count);
+/* The answer key of typed lines: `MODULUS TERMS`, two numbers of 1 to 9 decimal digits with blanks between them and perhaps around them, then a line feed, and after
+ * it a polynomial as bk_read takes it, at whose very end one line feed may stand. It is what bk_list gives for the job with the rows of this polynomial and r = 0.
+ * Where the lines are refused it is the one line `refused NUMBER DETAIL`: by 17 where there are more than 4,160 bytes or the first line is another; then by 1, 2, 4
+ * (terms outside 1..64), 17, 18, 19, 3 (degree outside 1..12), 7 or 9, in this order. The answer is the number of bytes written; the only refusal of the call itself
+ * is 10. 9,216 bytes are always enough. */
+uint64_t bk_key(const uint8_t *input, size_t input_count, uint8_t *out, size_t out_count);
 
 /* From here on nothing that a caller needs to read.
  *
@@ -169,6 +187,9 @@ static inline uint64_t bk_rows_product_any(uint32_t p, uint32_t d1, uint32_t d2,
 static inline uint64_t bk_rows_shift_any(uint32_t p, uint32_t d, uint32_t n, const uint32_t *f, size_t f_count, uint32_t c, uint32_t *out, size_t out_count) {
     return bk_rows_shift(p, d, n, bk_words_in(f, f_count), f_count, c, bk_words_out(out, out_count), out_count);
 }
+static inline uint64_t bk_read_any(uint32_t p, uint32_t n, const uint8_t *text, size_t text_count, uint32_t *out, size_t out_count) {
+    return bk_read(p, n, bk_bytes_in(text, text_count), text_count, bk_words_out(out, out_count), out_count);
+}
 static inline uint64_t bk_pair_any(uint32_t p, uint32_t d, uint32_t n, const uint32_t *f, size_t f_count, uint32_t h, uint32_t w, uint32_t *out, size_t out_count) {
     return bk_pair(p, d, n, bk_words_in(f, f_count), f_count, h, w, bk_words_out(out, out_count), out_count);
 }
@@ -205,6 +226,9 @@ static inline uint64_t bk_counts_any(uint32_t p, uint32_t d, uint32_t *out, size
 static inline uint64_t bk_list_any(const uint8_t *job, size_t job_count, uint8_t *out, size_t out_count) {
     return bk_list(bk_bytes_in(job, job_count), job_count, bk_bytes_out(out, out_count), out_count);
 }
+static inline uint64_t bk_key_any(const uint8_t *input, size_t input_count, uint8_t *out, size_t out_count) {
+    return bk_key(bk_bytes_in(input, input_count), input_count, bk_bytes_out(out, out_count), out_count);
+}
 
 #define bk_series_sum bk_series_sum_any
 #define bk_series_difference bk_series_difference_any
@@ -215,6 +239,7 @@ static inline uint64_t bk_list_any(const uint8_t *job, size_t job_count, uint8_t
 #define bk_rows_difference bk_rows_difference_any
 #define bk_rows_product bk_rows_product_any
 #define bk_rows_shift bk_rows_shift_any
+#define bk_read bk_read_any
 #define bk_pair bk_pair_any
 #define bk_sheet_open bk_sheet_open_any
 #define bk_sheet_find bk_sheet_find_any
@@ -227,6 +252,7 @@ static inline uint64_t bk_list_any(const uint8_t *job, size_t job_count, uint8_t
 #define bk_sheet_replay bk_sheet_replay_any
 #define bk_counts bk_counts_any
 #define bk_list bk_list_any
+#define bk_key bk_key_any
 
 #ifdef __cplusplus
 }

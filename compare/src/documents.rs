@@ -1,9 +1,10 @@
 //! Document 01's examples, by the words that it prints, and what document 02 changes in them: the sheet that F-8 makes smaller, the moduli of F-2, the one call for
-//! the pair of F-4, the quotient of F-5, the known lengths of F-9, the roots that F-3 finds, the entry that F-6 corrects, what F-13 counts.
+//! the pair of F-4, the quotient of F-5, the known lengths of F-9, the roots that F-3 finds, the entry that F-6 corrects, what F-13 counts,
+//! and what F-1 reads.
 
 use crate::random::Random;
 use crate::report::{engine, Outcome, Report};
-use bopkheul::{counts, listing, numbers, pair, series, sheet};
+use bopkheul::{counts, formula, listing, numbers, pair, series, sheet};
 
 fn example<T: PartialEq + std::fmt::Debug>(report: &mut Report, what: &str, is: T, expected: T) {
     report.expect(is == expected, &format!("document 01, {what}: {is:?} is not {expected:?}"));
@@ -142,6 +143,23 @@ fn the_counts(report: &mut Report) {
     report.kind("the counts of document 02's F-13");
 }
 
+/// Y³ + 3Y² − 3XY − 3X modulo 7, −(Y²), and texts that are not to be read.
+fn the_formula(report: &mut Report) {
+    let what = "document 02, F-1: what a lecturer types";
+    let mut out = [9; 13];
+    let read = |text: &str, out: &mut [u32]| engine(formula::read(7, 3, text, out));
+    report.expect(read("(Y^2-X)*(Y+3) - 2*X*Y", &mut out[..11]) == Err((10, 12)) && out == [9; 13], what);
+    report.expect(read("(Y^2-X)*(Y+3) - 2*X*Y", &mut out) == Ok(3) && out == [0, 4, 0, 0, 4, 0, 3, 0, 0, 1, 0, 0, 9], what);
+    report.expect(read("-Y^2", &mut out) == Ok(2) && out == [0, 0, 0, 0, 0, 0, 6, 0, 0, 1, 0, 0, 9], what);
+    report.expect(read("X^3*Y^9+0^0", &mut out) == Ok(0) && out[..4] == [1, 0, 0, 0], what);
+    for (text, number) in [("Y^2^3", 17), ("1+-2", 17), ("Y^256", 17), (&("(".repeat(33) + "Y" + &")".repeat(33)), 18), ("Y^33-Y^33", 19)] {
+        report.expect(read(text, &mut out) == Err((number, 0)), what);
+    }
+    let key = "mod 7 terms 3 degree 3 factors 2\nroot 0 power 2\nY^0: 0 6 1\nY^1: 0 4 5\nroot 4 power 1\nY^0: 3 3 2\n";
+    report.expect(formula::key_text("7 3\n(Y^2-X)*(Y+3) - 2*X*Y\n") == key.as_bytes(), what);
+    report.kind("the typed polynomial of document 02's F-1");
+}
+
 /// Y^d with n columns, opened with the root 0.
 fn power_of_y(d: u32, n: u32, room: usize) -> Outcome {
     let width = n as usize;
@@ -172,4 +190,5 @@ pub fn run(_: &mut Random, report: &mut Report) {
     roots_found(report);
     a_correction(report);
     the_counts(report);
+    the_formula(report);
 }

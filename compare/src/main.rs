@@ -9,6 +9,8 @@ mod demand_3;
 mod documents;
 mod extensions;
 mod finding;
+mod formulas;
+mod keys;
 mod lengths;
 mod listings;
 mod numbers;
@@ -22,6 +24,7 @@ mod report;
 mod rows;
 mod series;
 mod sheets;
+mod typed;
 
 use random::Random;
 use report::Report;
@@ -29,7 +32,7 @@ use std::process::exit;
 
 type Section = fn(&mut Random, &mut Report);
 
-const SECTIONS: [Section; 16] = [
+const SECTIONS: [Section; 18] = [
     documents::run,
     numbers::run,
     series::run,
@@ -46,6 +49,8 @@ const SECTIONS: [Section; 16] = [
     finding::run,
     corrections::run,
     counts::run,
+    typed::run,
+    keys::run,
 ];
 
 fn seeds() -> Vec<u64> {

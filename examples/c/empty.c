@@ -34,6 +34,7 @@ static void nothing_given(void) {
     say("rows difference", bk_rows_difference(P, D, N, NULL, 0, NULL, 0, NULL, 0));
     say("rows product", bk_rows_product(P, D, D, N, NULL, 0, NULL, 0, NULL, 0));
     say("rows shift", bk_rows_shift(P, D, N, NULL, 0, 1, NULL, 0));
+    say("read", bk_read(P, N, NULL, 0, NULL, 0));
     say("pair", bk_pair(P, D, N, NULL, 0, 0, N, NULL, 0));
     say("sheet find", bk_sheet_find(P, D, N, NULL, 0, NULL, 0, NULL, 0));
     say("sheet open", bk_sheet_open(P, D, N, NULL, 0, NULL, 0, NULL, 0, NULL, 0));
@@ -46,6 +47,7 @@ static void nothing_given(void) {
     say("sheet replay", bk_sheet_replay(NULL, 0, NULL, 0, NULL, 0));
     say("counts", bk_counts(P, D, NULL, 0));
     say("list", bk_list(NULL, 0, NULL, 0));
+    say("key", bk_key(NULL, 0, NULL, 0));
 }
 
 int main(void) {

@@ -1,6 +1,6 @@
 //! Document 01 once more, with document 02's F-8 (the sheet), F-2 (moduli of three bytes, wide job files), F-4 (one call for the pair), F-5 (quotients with X in
-//! common), F-9 (rows known to different lengths), F-3 (roots that are found), F-6 (an entry corrected) and F-13 (how often it splits): written from their text alone
-//! and by other methods than the engine's, so that a slip of one is not a slip of both.
+//! common), F-9 (rows known to different lengths), F-3 (roots that are found), F-6 (an entry corrected), F-13 (how often it splits) and F-1 (typed polynomials): written
+//! from their text alone and by other methods than the engine's, so that a slip of one is not a slip of both.
 //!
 //! | | engine | here |
 //! |---|---|---|
@@ -17,6 +17,8 @@
 //! | a corrected entry | the splits once more, where its column is worked | the linear systems once more, whatever its column is |
 //! | a factor's rows | a part of the sheet, by its place | the sheet taken apart, row after row |
 //! | how often it splits | products of binomials | every product of lines multiplied out, and looked up among all polynomials |
+//! | a typed polynomial | one pass with a state and counts of digits and brackets; then functions for sum, term and element that call each other | brackets taken out from the innermost on, and sums cut at signs, `*` and `^` |
+//! | the first line of typed ones | byte after byte | cut at its blanks |
 //! | soundness | splits once more and compares | the definitions: everything is multiplied out |
 //!
 //! Every operation has the arguments of the C interface (`include/bopkheul.h`), and answers `Ok(answer)` or `Err(refusal)`.
@@ -25,6 +27,7 @@
 pub mod calls;
 pub mod counts;
 pub mod field;
+pub mod formula;
 pub mod linear;
 pub mod listing;
 pub mod numbers;

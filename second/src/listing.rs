@@ -1,5 +1,6 @@
-//! The job file and its listing.
+//! The job file and its listing, and the answer key of typed lines, which is a listing too.
 
+use crate::formula;
 use crate::refusal::{composite, judge, modulus_range, short, when, Answer, Refusal};
 use crate::sheet;
 
@@ -20,6 +21,16 @@ fn taken_apart(bytes: &[u8]) -> (u64, u64, Vec<u32>) {
     }
 }
 
+/// Row 3 for a job.
+fn degree(d: u32) -> Option<usize> {
+    when(!(1..=12).contains(&d))
+}
+
+/// Row 4 for a job.
+fn terms(n: u32) -> Option<usize> {
+    when(!(1..=64).contains(&n))
+}
+
 fn read(bytes: &[u8]) -> Result<Job, Refusal> {
     let (size, head, fields) = taken_apart(bytes);
     let length = bytes.len() as u64;
@@ -31,13 +42,7 @@ fn read(bytes: &[u8]) -> Result<Job, Refusal> {
         let after_roots = head + size * r as u64;
         *roots as u64 != head || *rows as u64 != after_roots || length != after_roots + size * (d as u64 + 1) * n as u64
     };
-    judge(&[
-        (1, &|| modulus_range(p)),
-        (2, &|| composite(p)),
-        (3, &|| when(!(1..=12).contains(&d))),
-        (4, &|| when(!(1..=64).contains(&n))),
-        (5, &|| when(r > 12 || misplaced())),
-    ])?;
+    judge(&[(1, &|| modulus_range(p)), (2, &|| composite(p)), (3, &|| degree(d)), (4, &|| terms(n)), (5, &|| when(r > 12 || misplaced()))])?;
     Ok(Job { p, d, n, r, rest: rest.to_vec() })
 }
 
@@ -75,18 +80,61 @@ fn worked(job: &Job) -> Result<String, Refusal> {
     Ok(text)
 }
 
-/// What the program prints for a job file.
-pub fn text(bytes: &[u8]) -> String {
-    match read(bytes).and_then(|job| worked(&job)) {
+/// A number of 1 to 9 digits.
+fn number(word: &[u8]) -> Option<u32> {
+    let digits = word.len() <= 9 && word.iter().all(u8::is_ascii_digit);
+    std::str::from_utf8(word).ok().filter(|_| digits)?.parse().ok()
+}
+
+/// Modulus, terms and polynomial of typed lines: the first is cut at its blanks, and two numbers must be what is left.
+fn asked(input: &[u8]) -> Option<(u32, u32, &[u8])> {
+    let mut lines = input.splitn(2, |&byte| byte == b'\n');
+    let (first, rest) = (lines.next()?, lines.next()?);
+    let words = first.split(|&byte| byte == b' ').filter(|word| !word.is_empty());
+    let [p, n] = words.map(number).collect::<Option<Vec<_>>>()?[..] else { return None };
+    (input.len() <= 4160).then_some((p, n, rest.strip_suffix(b"\n").unwrap_or(rest)))
+}
+
+/// The job that typed lines ask for, all of it known and without roots.
+fn typed(input: &[u8]) -> Result<Job, Refusal> {
+    let (p, n, text) = asked(input).ok_or(Refusal { number: 17, detail: 0 })?;
+    judge(&[(1, &|| modulus_range(p)), (2, &|| composite(p)), (4, &|| terms(n))])?;
+    let mut rest = vec![0; 33 * n as usize];
+    let d = formula::read(p, n, text, &mut rest)?;
+    judge(&[(3, &|| degree(d))])?;
+    rest.truncate(((d + 1) * n) as usize);
+    Ok(Job { p, d, n, r: 0, rest })
+}
+
+fn printed(job: Result<Job, Refusal>) -> String {
+    match job.and_then(|job| worked(&job)) {
         Ok(text) => text,
         Err(Refusal { number, detail }) => format!("refused {number} {detail}\n"),
     }
 }
 
-/// Writes it, and answers the number of bytes.
-pub fn list(job: &[u8], out: &mut [u8]) -> Answer {
-    let text = text(job);
+fn put(text: String, out: &mut [u8]) -> Answer {
     judge(&[(10, &|| short(out, text.len()))])?;
     out[..text.len()].copy_from_slice(text.as_bytes());
     Ok(text.len() as u32)
+}
+
+/// What the program prints for a job file.
+pub fn text(bytes: &[u8]) -> String {
+    printed(read(bytes))
+}
+
+/// Writes it, and answers the number of bytes.
+pub fn list(job: &[u8], out: &mut [u8]) -> Answer {
+    put(text(job), out)
+}
+
+/// What the program prints for typed lines.
+pub fn key_text(input: &[u8]) -> String {
+    printed(typed(input))
+}
+
+/// Writes it, and answers the number of bytes.
+pub fn key(input: &[u8], out: &mut [u8]) -> Answer {
+    put(key_text(input), out)
 }

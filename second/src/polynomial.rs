@@ -35,7 +35,7 @@ pub fn entrywise(op: fn(u64, u64, u64) -> u64, p: u64, g: &[u64], h: &[u64]) -> 
 /// g·h modulo X^N, by adding every product of two coefficients to the column where it belongs: at most 256 products below 2^48.
 pub fn series_product(p: u64, g: &[u64], h: &[u64]) -> Series {
     let mut out = vec![0; g.len()];
-    for (i, &a) in g.iter().enumerate() {
+    for (i, &a) in g.iter().enumerate().filter(|(_, &a)| a != 0) {
         for (column, &b) in out[i..].iter_mut().zip(h) {
             *column += a * b;
         }

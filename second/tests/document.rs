@@ -1,8 +1,9 @@
 //! The examples of document 01, the sheet of F-8, F-2's moduli and job files, F-4's one call for the pair, F-5's quotients, F-9's known lengths, F-3's roots, F-6's
-//! corrections, and F-13's counts.
+//! corrections, F-13's counts, and F-1's typed polynomials.
 
 use second::calls::{replay, PlainCount};
 use second::counts::counts;
+use second::formula::read;
 use second::roots::roots;
 use second::{listing, numbers, pair, series, sheet, Refusal};
 
@@ -589,4 +590,154 @@ fn too_many_polynomials_come_after_3_and_before_10() {
     assert_eq!(counts(2, 16, &mut out[..16]), refused(10, 17));
     assert_eq!(counts(65_521, 1, &mut []), refused(10, 2));
     assert_eq!(out, [9; 40]);
+}
+
+/// The rows of what is typed, each of n words; or the refusal, which leaves the output as it was.
+fn typed(p: u32, n: u32, text: &str) -> Result<Vec<Vec<u32>>, (u32, u32)> {
+    let mut out = vec![9; 34 * n as usize];
+    let answer = read(p, n, text.as_bytes(), &mut out);
+    let (rows, past) = out.split_at(answer.map_or(0, |degree| (degree as usize + 1) * n as usize));
+    assert!(past.iter().all(|&word| word == 9), "{text}");
+    answer.map(|_| rows.chunks(n as usize).map(<[u32]>::to_vec).collect()).map_err(|refusal| (refusal.number, refusal.detail))
+}
+
+/// Y^3 + 3Y^2 − 3XY − 3X.
+#[test]
+fn a_typed_polynomial() {
+    let rows = vec![vec![0, 4, 0], vec![0, 4, 0], vec![3, 0, 0], vec![1, 0, 0]];
+    for text in ["(Y^2-X)*(Y+3) - 2*X*Y", "  ( Y ^ 2-X)*(Y+03)-2 *X *Y ", "+Y^003-(0-3)*Y^2-(3*X)*Y^1-3*X*Y^0", "-(3*X*(Y+1)-Y^3-3*(-Y)^2)"] {
+        assert_eq!(typed(7, 3, text), Ok(rows.clone()), "{text}");
+    }
+    assert_eq!(typed(7, 1, "(Y^2-X)*(Y+3) - 2*X*Y"), Ok(vec![vec![0], vec![0], vec![3], vec![1]]));
+}
+
+#[test]
+fn what_typed_signs_and_powers_mean() {
+    for (text, value) in [
+        ("-Y^2", vec![vec![0, 0], vec![0, 0], vec![6, 0]]),
+        ("(-Y)^2", vec![vec![0, 0], vec![0, 0], vec![1, 0]]),
+        ("1-2-3", vec![vec![3, 0]]),
+        ("1-(2-3)", vec![vec![2, 0]]),
+        ("2+3*4^2", vec![vec![1, 0]]),
+        ("2^3", vec![vec![1, 0]]),
+        ("999999999", vec![vec![999_999_999 % 7, 0]]),
+        ("0^0", vec![vec![1, 0]]),
+        ("X^2", vec![vec![0, 0]]),
+        ("(X^2)^0+Y*0", vec![vec![1, 0]]),
+        ("7*Y^32", vec![vec![0, 0]]),
+        ("X*Y", vec![vec![0, 0], vec![0, 1]]),
+    ] {
+        assert_eq!(typed(7, 2, text), Ok(value), "{text}");
+    }
+    assert_eq!(typed(7, 1, "Y^000000032").map(|rows| rows.len()), Ok(33));
+}
+
+#[test]
+fn what_is_unreadable() {
+    let nothing = ["", " ", "()", "+", "(+)"];
+    let bytes = ["x", "y", "Y\t", "Y\n", "\0", "Y\0", "Y.", "Y−1"];
+    let brackets = ["(", ")", "(Y", "Y)", ")Y(", "(Y+)", "(*Y)"];
+    let neighbours = ["Y Y", "2Y", "Y2", "1 2", "1+-2", "2*-3", "--Y", "Y+", "Y*", "*Y", "Y**2"];
+    let powers = ["Y^", "^2", "Y^X", "Y^(2)", "Y^-1", "Y^2^3", "(Y^2)^3^1", "Y^2 2", "Y^256", "Y^000000256", "2^999999999"];
+    let digits = ["1234567890", "0000000001", "Y^0000000001"];
+    for text in [&nothing[..], &bytes, &brackets, &neighbours, &powers, &digits].concat() {
+        assert_eq!(typed(7, 2, text), Err((17, 0)), "{text}");
+    }
+    let padded = |bytes: usize| format!("{:>bytes$}", "Y ");
+    assert_eq!(typed(7, 1, &padded(4096)), Ok(vec![vec![0], vec![1]]));
+    assert_eq!(typed(7, 1, &padded(4097)), Err((17, 0)));
+}
+
+/// 2,047 brackets on either side of Y are 4,095 bytes.
+#[test]
+fn how_deep_brackets_may_be() {
+    let nested = |depth: usize| "(".repeat(depth) + "Y" + &")".repeat(depth);
+    assert_eq!(typed(7, 1, &nested(32)), Ok(vec![vec![0], vec![1]]));
+    for depth in [33, 34, 2047] {
+        assert_eq!(typed(7, 1, &nested(depth)), Err((18, 0)), "{depth}");
+        assert_eq!(typed(7, 1, &(nested(depth) + ")")), Err((17, 0)), "{depth}");
+    }
+    assert_eq!(typed(7, 1, &("(Y)*".repeat(32) + "1")).map(|rows| rows.len()), Ok(33));
+    // deep comes before high, and unreadable before deep
+    assert_eq!(typed(7, 1, &("Y^33+".to_string() + &nested(33))), Err((18, 0)));
+    assert_eq!(typed(7, 1, &("Y^33+".to_string() + &nested(33) + "+")), Err((17, 0)));
+}
+
+#[test]
+fn how_high_parts_may_be() {
+    let powers = ["Y^33", "Y^255", "(Y^17)^2", "(Y^11+1)^3", "(X*Y^20)^3"];
+    let later_gone = ["Y^33-Y^33", "(Y^33)^0", "0*(Y^33)", "Y^20*Y^20*0", "-Y^16*Y^17+Y^16*Y^17", "1-(1+0*Y^33)"];
+    for text in [&powers[..], &later_gone].concat() {
+        assert_eq!(typed(7, 3, text), Err((19, 0)), "{text}");
+    }
+    for text in ["(7*Y)^255", "(X*Y)^255", "0*Y^20*Y^20", "Y^32-Y^32", "(X*Y^16)^3", "(X^3*Y^20)^255"] {
+        assert_eq!(typed(7, 3, text), Ok(vec![vec![0; 3]]), "{text}");
+    }
+    for text in ["Y^32", "Y^16*Y^16", "(Y^16)^2", "(X+Y)^32", "(Y^32)^1", "(Y^32+1)^0*Y^32"] {
+        assert_eq!(typed(7, 3, text).map(|rows| rows.len()), Ok(33), "{text}");
+    }
+}
+
+#[test]
+fn refusals_of_typed_polynomials_in_their_order() {
+    let text = b"Y^33+(";
+    assert_eq!(read(1, 0, text, &mut []), refused(1, 0));
+    assert_eq!(read(1 << 24, 0, text, &mut []), refused(1, 0));
+    assert_eq!(read(16_777_215, 0, text, &mut []), refused(2, 3));
+    for n in [0, 257, u32::MAX] {
+        assert_eq!(read(16_777_213, n, text, &mut []), refused(4, 0), "{n}");
+    }
+    assert_eq!(read(16_777_213, 256, text, &mut []), refused(17, 0));
+    assert_eq!(read(16_777_213, 256, b"Y^33", &mut []), refused(19, 0));
+    assert_eq!(read(16_777_213, 256, b"Y^32", &mut [9; 33 * 256 - 1]), refused(10, 33 * 256));
+    assert_eq!(read(16_777_213, 256, b"Y^32", &mut [9; 33 * 256]), Ok(32));
+    assert_eq!(read(2, 3, b"1+1", &mut []), refused(10, 3));
+}
+
+/// Y² − 1 − X modulo 7 as the job has it; what a first line may be, and where each refusal stands among the others.
+#[test]
+fn answer_keys() {
+    let square = "mod 7 terms 3 degree 2 factors 2\nroot 1 power 1\nY^0: 6 3 1\nroot 6 power 1\nY^0: 1 4 6\n";
+    let key = |input: &str| listing::key_text(input.as_bytes());
+    for input in ["7 3\nY^2-1-X\n", "7 3\nY^2-1-X", "  000000007   03 \n Y^2 - 1 - X \n", "7 3\n(Y-1)*(Y+1)-X+(Y+X)^20-(Y+X)^20"] {
+        assert_eq!(key(input), square, "{input}");
+    }
+    let brackets = "mod 7 terms 3 degree 3 factors 2\nroot 0 power 2\nY^0: 0 6 1\nY^1: 0 4 5\nroot 4 power 1\nY^0: 3 3 2\n";
+    assert_eq!(key("7 3\n(Y^2-X)*(Y+3) - 2*X*Y\n"), brackets);
+    for first in
+        ["", " ", "7", "7 ", "73", "7,3", "7, 3", "7\t3", "7 3 1", "7 3.", "+7 3", "7 -3", "x7 3", "7 3\r", "1234567890 3", "7 0000000003", "7 3\n"]
+    {
+        assert_eq!(key(&format!("{first}\nY")), "refused 17 0\n", "{first:?}");
+    }
+    for input in ["", "\n", "7 3", "7 3 Y", "\n7 3\nY", "7 3\n", "7 3\n\n", "7 3\nY\n\n", "7 3\nY^2\n-1"] {
+        assert_eq!(key(input), "refused 17 0\n", "{input:?}");
+    }
+    for (input, refusal) in [
+        ("1 0\n(", "1 0"),
+        ("16777216 0\n(", "1 0"),
+        ("16777215 0\n(", "2 3"),
+        ("16777213 0\n(", "4 0"),
+        ("16777213 65\n(", "4 0"),
+        ("16777213 64\nY^33+(", "17 0"),
+        ("16777213 64\nY^33", "19 0"),
+        ("16777213 64\n2*Y^13", "3 0"),
+        ("16777213 64\n2", "3 0"),
+        ("7 64\n2*Y^2+2", "7 0"),
+        ("7 64\nX*Y^2+Y", "7 0"),
+        ("7 64\nY^2+1", "9 0"),
+    ] {
+        assert_eq!(key(input), format!("refused {refusal}\n"), "{input}");
+    }
+    let longest = format!("{:<63}\n{:<4095}\n", "7 3", "Y^2-1-X");
+    assert_eq!((longest.len(), key(&longest)), (4160, square.to_string()));
+    assert_eq!(key(&(longest + "\n")), "refused 17 0\n");
+    assert_eq!(key(&format!("1 0\n{:<4156}", "Y")), "refused 1 0\n");
+    assert_eq!(key(&format!("1 0\n{:<4157}", "Y")), "refused 17 0\n");
+    assert_eq!(key(&format!("7 3\n{:<4097}", "Y")), "refused 17 0\n");
+
+    let mut out = [9; 99];
+    assert_eq!(listing::key(b"7 3\nY^2-1-X", &mut out[..square.len() - 1]), refused(10, square.len() as u32));
+    assert_eq!(out, [9; 99]);
+    assert_eq!(listing::key(b"7 3\nY^2-1-X", &mut out), Ok(square.len() as u32));
+    assert_eq!((&out[..square.len()], &out[square.len()..]), (square.as_bytes(), &[9; 99][square.len()..]));
 }

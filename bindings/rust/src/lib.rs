@@ -27,12 +27,16 @@
 //! Here every entry is known. Where rows are known to different lengths, [`Sheet::find`] takes these lengths. [`Sheet::open_known`] and [`Sheet::open`] are for
 //! roots that are known: they take the list of them. A mistyped entry is put right by [`Sheet::correct`], and the factors with it.
 //!
+//! [`formula::read`] takes a polynomial as it is typed, `(Y^2-X)*(Y+3) - 2*X*Y` for example, and writes its rows. [`formula::key_text`] is the
+//! answer key of what a lecturer types: modulus, terms and polynomial.
+//!
 //! How often polynomials split whose coefficients are drawn by lot is said by [`counts::counts`].
 
 mod raw;
 mod refusal;
 
 pub mod counts;
+pub mod formula;
 pub mod listing;
 pub mod numbers;
 pub mod pair;

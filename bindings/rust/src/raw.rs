@@ -45,6 +45,8 @@ extern "C" {
     pub fn bk_rows_product(p: u32, d1: u32, d2: u32, n: u32, f: Words, f_count: usize, g: Words, g_count: usize, out: Out, out_count: usize) -> u64;
     pub fn bk_rows_shift(p: u32, d: u32, n: u32, f: Words, f_count: usize, c: u32, out: Out, out_count: usize) -> u64;
 
+    pub fn bk_read(p: u32, n: u32, text: *const u8, text_count: usize, out: Out, out_count: usize) -> u64;
+
     pub fn bk_pair(p: u32, d: u32, n: u32, f: Words, f_count: usize, h: u32, w: u32, out: Out, out_count: usize) -> u64;
 
     pub fn bk_sheet_open(
@@ -72,6 +74,7 @@ extern "C" {
     pub fn bk_counts(p: u32, d: u32, out: Out, out_count: usize) -> u64;
 
     pub fn bk_list(job: *const u8, job_count: usize, out: *mut u8, out_count: usize) -> u64;
+    pub fn bk_key(input: *const u8, input_count: usize, out: *mut u8, out_count: usize) -> u64;
 }
 
 /// High half 0 and the answer, or the refusal's number and its detail.

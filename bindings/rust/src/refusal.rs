@@ -10,7 +10,7 @@ pub struct Refusal {
     pub detail: u32,
 }
 
-/// The refusals by name, each with its number; 17 to 19, 22 and 23 are not in use.
+/// The refusals by name, each with its number; 22 and 23 are not in use.
 #[derive(Clone, Copy, Debug, PartialEq, Eq, Hash)]
 #[non_exhaustive]
 pub enum Kind {
@@ -30,14 +30,17 @@ pub enum Kind {
     Beyond,
     Behind,
     NoFactor,
-    Entry = 20,
+    Unreadable,
+    Deep,
+    High,
+    Entry,
     KnownTerms,
     Many = 24,
     /// A number that this crate has no name for.
     Unknown,
 }
 
-const KINDS: [Kind; 19] = [
+const KINDS: [Kind; 22] = [
     Kind::ModulusRange,
     Kind::Composite,
     Kind::Degree,
@@ -54,6 +57,9 @@ const KINDS: [Kind; 19] = [
     Kind::Beyond,
     Kind::Behind,
     Kind::NoFactor,
+    Kind::Unreadable,
+    Kind::Deep,
+    Kind::High,
     Kind::Entry,
     Kind::KnownTerms,
     Kind::Many,
@@ -89,6 +95,9 @@ impl fmt::Display for Refusal {
             Kind::Beyond => write!(to, "the terms wanted are none, or more than there are columns, or than the least known length of a sheet"),
             Kind::Behind => write!(to, "the terms wanted are fewer than those there"),
             Kind::NoFactor => write!(to, "there is no factor of this index"),
+            Kind::Unreadable => write!(to, "the text cannot be read as a formula, or has more than 4096 bytes"),
+            Kind::Deep => write!(to, "the brackets of the formula are more than 32 deep"),
+            Kind::High => write!(to, "some part of the formula has a degree above 32 in Y"),
             Kind::Entry => write!(to, "there is no such entry to correct: no such row, column 0, or a column past the row's known length"),
             Kind::KnownTerms => write!(to, "a count of known terms or a known length is not from 1 to the columns, or a word past it is not 0"),
             Kind::Many => write!(to, "there are more than 65536 polynomials of this degree to count"),

@@ -27,7 +27,9 @@ ghost use Rattle.extend.specs.Extend.{extendVerdict, ExtendDone};
 ghost use Rattle.correct.specs.Correct.{correctVerdict, CorrectDone};
 ghost use Rattle.calls.specs.Replay.{callCount, callsTo, answerCount, replayVerdict, ReplayLeaves};
 ghost use Rattle.counts.specs.Counts.{countWords, countsChecks};
+ghost use Rattle.read.specs.Read.{ReadOf};
 ghost use Rattle.listing.specs.Listing.{Listed};
+ghost use Rattle.typed.specs.Key.{Keyed};
 ghost use Rattle.capi.specs.Packed.{packed, packedNumber, Packs};
 ghost use Rattle.capi.specs.Factor.{factorChecks, factorWords};
 
@@ -331,10 +333,26 @@ pub extern "C" fn bk_counts(p: u32, d: u32, out: &mut [u32]) -> u64
     pack(counts::counts(p, d, out))
 }
 
+// A typed polynomial. The answer is its Y-degree.
+#[no_mangle]
+pub extern "C" fn bk_read(p: u32, n: u32, text: &[u8], out: &mut [u32]) -> u64
+    ensures { λ r. ⌜ Packs r (λ a. ReadOf p n (now (text .entry)) (now (out .entry)) a (now (out .exit))) ⌝ }
+{
+    pack(read::read(p, n, text, out))
+}
+
 // The listing of a job file. The answer is its number of bytes.
 #[no_mangle]
 pub extern "C" fn bk_list(job: &[u8], out: &mut [u8]) -> u64
     ensures { λ r. ⌜ Packs r (λ a. Listed (now (job .entry)) (now (out .entry)) a (now (out .exit))) ⌝ }
 {
     pack(listing::list(job, out))
+}
+
+// The answer key of typed input. The answer is its number of bytes.
+#[no_mangle]
+pub extern "C" fn bk_key(input: &[u8], out: &mut [u8]) -> u64
+    ensures { λ r. ⌜ Packs r (λ a. Keyed (now (input .entry)) (now (out .entry)) a (now (out .exit))) ⌝ }
+{
+    pack(typed::key(input, out))
 }

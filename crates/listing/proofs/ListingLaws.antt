@@ -8,8 +8,11 @@
 --   wrote-refused, wrote-listed, given-listable   after opening: the refusal, or else extend to N
 --   made-fits, made-first      the first words of an array, where a function made them; loaded-first, loaded-long where they are a job's
 --   wrote-early, wrote-job     the text of a job, by its own checks or by those of opening
---   listed-fits, listed-never  an accepted listing is within its room; `textRoom` bytes are always enough
+--   put-first, put-fits        a text that stands at the front of a buffer
+--   handed-fits, handed-never  a text handed over is within its room, and where there is room it is handed over
+--   listed-fits, listed-never  so a listing; `textRoom` bytes are always enough
 --   listing-same               two sheets that hold it have one listing
+--   one-text                   under each verdict there is exactly one text
 --   one-listing, listed-only   each job comes to exactly one text; so listing it has one outcome only
 --   listing-cut                the first bytes of a file that is too long come to its text
 -- Assumes nothing.
@@ -136,7 +139,7 @@ list-room g d n r =
     omega arith
 
 -- rows that are refused are refused wherever they stand; of others there are no more roots than the degree
-find-same : (g : Given) (room : ℕ) → g .D ≤ mostDegree → g .N ≤ mostWidth → room ≡ sheetRoom → findVerdict g room ≡ findVerdict g (needed (withRoots g))
+pub find-same : (g : Given) (room : ℕ) → g .D ≤ mostDegree → g .N ≤ mostWidth → room ≡ sheetRoom → findVerdict g room ≡ findVerdict g (needed (withRoots g))
 find-same g room d n q = go (judge (polynomialChecks g ++ topChecks g)) refl
   where
     go : (v : Verdict) → judge (polynomialChecks g ++ topChecks g) ≡ v → findVerdict g room ≡ findVerdict g (needed (withRoots g))
@@ -241,17 +244,19 @@ job-reach b =
     let z = rooted-sizes (jobGiven b) in
     z .2 ∙ whole-reach (jobModulus b) (jobDegree b) (jobWidth b) (jobGiven b .rows) (jobGiven b .roots) ∙ sym (z .1)
 
--- each job comes to exactly one text
-pub one-listing : (job : List ℕ) → One (IsListing job)
-one-listing job = go (listVerdict job) refl
+-- under each verdict there is exactly one text
+pub one-text : (v : Verdict) (g : Given) → given-reach g ≡ g .N → (v ≡ Pass → GivenReady g) → One (TextOf v g)
+one-text v g whole ready = go v refl
   where
-    go : (v : Verdict) → listVerdict job ≡ v → One (IsListing job)
+    go : (w : Verdict) → v ≡ w → One (TextOf v g)
     go Pass e =
-        let g = rooted (jobGiven job) in
-        let ready = rooted-ready (jobGiven job) (needed g) (pass-open job e) .0 in
-        let one = sheet-exists g ready (g .N) (ready .width-low) (omega (arith, job-reach job)) in
-        (listingText (one .words), record { is = text-listed (listVerdict job) g (one .words) e (one .holds); only = λ other x. x .listed e (one .words) (one .holds) })
-    go (Refuse r) e = (refusedText (r .number) (r .detail), record { is = text-refused (listVerdict job) (rooted (jobGiven job)) r e; only = λ other x. x .refused r e })
+        let one = sheet-exists g (ready e) (g .N) (ready e .width-low) (omega arith) in
+        (listingText (one .words), record { is = text-listed v g (one .words) e (one .holds); only = λ other x. x .listed e (one .words) (one .holds) })
+    go (Refuse r) e = (refusedText (r .number) (r .detail), record { is = text-refused v g r e; only = λ other x. x .refused r e })
+
+-- so each job comes to exactly one text
+pub one-listing : (job : List ℕ) → One (IsListing job)
+one-listing job = one-text (listVerdict job) (rooted (jobGiven job)) (job-reach job) (λ e. rooted-ready (jobGiven job) (needed (rooted (jobGiven job))) (pass-open job e) .0)
 
 -- so the call has one outcome only
 pub listed-only : (job old : List ℕ) (a a′ : Outcome ℕ) (new new′ : List ℕ) → Listed job old a new → Listed job old a′ new′ → (a ≡ a′) × (new ≡ new′)
@@ -391,43 +396,51 @@ wrote-early b r e f = record {
   puts = puts-as textRoom (refusedText (r .number) (r .detail)) f refl (omega arith);
 }
 
+-- a text that stands at the front of a buffer
+module _ {long : ℕ} {text zeros bytes : List ℕ} (f : Puts textRoom text 0 zeros long bytes) where
+  put-long : long ≡ length text
+  put-long = f .answers ∙ (let z : 0 + length text ≡ length text = omega arith in z)
+
+  pub put-first : take long bytes ≡ text
+  put-first = ap (take long) (put-over f) ∙ take-at text (drop (length text) zeros) long (sym put-long)
+
+  pub put-fits : (long ≤ length bytes) × (length (take long bytes) ≤ textRoom)
+  put-fits = (omega (arith, f .fits, f .long, put-long), omega (arith, ap length put-first, f .within))
+
 -- a text written is handed over as far as it goes
 module _ (job zeros bytes : List ℕ) (long : ℕ) (w : Wrote (listVerdict job) (rooted (jobGiven job)) zeros long bytes) where
-  first-long : long ≡ length (w .text)
-  first-long = w .puts .answers ∙ (let z : 0 + length (w .text) ≡ length (w .text) = omega arith in z)
-
-  first-is : take long bytes ≡ w .text
-  first-is = ap (take long) (put-over (w .puts)) ∙ take-at (w .text) (drop (length (w .text)) zeros) long (sym first-long)
-
-  pub first-fits : (long ≤ length bytes) × (length (take long bytes) ≤ textRoom)
-  first-fits = (omega (arith, w .puts .fits, w .puts .long, first-long), omega (arith, ap length first-is, w .puts .within))
-
   pub listed-all : (text old new : List ℕ) (a : Outcome ℕ) → text ≡ take long bytes → a ≡ result (roomVerdict text old) (length text)
       → new ≡ written (roomVerdict text old) (over text old) old → Listed job old a new
   listed-all text old new a is e f = record {
     text = text;
-    is = subst (λ (x : List ℕ). IsListing job x) (sym (is ∙ first-is)) (w .is);
-    short = omega (arith, ap length (is ∙ first-is), w .puts .within);
+    is = subst (λ (x : List ℕ). IsListing job x) (sym (is ∙ put-first (w .puts))) (w .is);
+    short = omega (arith, ap length is, put-fits (w .puts) .1);
     answers = e;
     leaves = f;
   }
 
--- an accepted listing is no longer than the room for it
-pub listed-fits : (job old new : List ℕ) (a : Outcome ℕ) (n : ℕ) → a ≡ accepted n → Listed job old a new → n ≤ length old
-listed-fits job old new a n is h = go (ltb (length old) (length (h .text))) refl
-  where
-    go : (b : Bool) → ltb (length old) (length (h .text)) ≡ b → n ≤ length old
-    go true e = unlike n 10 (length (h .text)) (sym (h .answers ∙ ap (λ (v : Verdict). result v (length (h .text))) (take-check (check 10 (ltb (length old) (length (h .text))) (length (h .text))) [] e)) ∙ is)
-    go false e =
-        let l = ltb-false (length old) (length (h .text)) e in
-        let q : _≡_ {A = Outcome ℕ} (accepted n) (accepted (length (h .text))) = sym is ∙ h .answers ∙ ap (λ (v : Verdict). result v (length (h .text))) (has-room (h .text) old l) in
-        let z : n ≡ length (h .text) = cc in
-        omega arith
+-- a text handed over is no longer than the room for it, and where there is room it is handed over
+module _ (text old : List ℕ) (a : Outcome ℕ) (h : a ≡ result (roomVerdict text old) (length text)) where
+  pub handed-fits : (n : ℕ) → a ≡ accepted n → n ≤ length old
+  handed-fits n is = go (ltb (length old) (length text)) refl
+    where
+      go : (b : Bool) → ltb (length old) (length text) ≡ b → n ≤ length old
+      go true e = unlike n 10 (length text) (sym (h ∙ ap (λ (v : Verdict). result v (length text)) (take-check (check 10 (ltb (length old) (length text)) (length text)) [] e)) ∙ is)
+      go false e =
+          let l = ltb-false (length old) (length text) e in
+          let q : _≡_ {A = Outcome ℕ} (accepted n) (accepted (length text)) = sym is ∙ h ∙ ap (λ (v : Verdict). result v (length text)) (has-room text old l) in
+          let z : n ≡ length text = cc in
+          omega arith
 
--- the room of every text is always room enough
+  pub handed-never : {A : Type 0} (n d : ℕ) → a ≡ refused n d → length text ≤ length old → A
+  handed-never n d is room = unlike (length text) n d (sym is ∙ h ∙ ap (λ (v : Verdict). result v (length text)) (has-room text old room))
+
+-- so an accepted listing, and the room of every text is always room enough
+pub listed-fits : (job old new : List ℕ) (a : Outcome ℕ) (n : ℕ) → a ≡ accepted n → Listed job old a new → n ≤ length old
+listed-fits job old new a n is h = handed-fits (h .text) old a (h .answers) n is
+
 pub listed-never : {A : Type 0} (job old new : List ℕ) (a : Outcome ℕ) (n d : ℕ) → a ≡ refused n d → textRoom ≤ length old → Listed job old a new → A
-listed-never job old new a n d is room h =
-    unlike (length (h .text)) n d (sym is ∙ h .answers ∙ ap (λ (v : Verdict). result v (length (h .text))) (has-room (h .text) old (omega (arith, h .short))))
+listed-never job old new a n d is room h = handed-never (h .text) old a (h .answers) n d is (omega (arith, h .short))
 
 pub listed-as : (job old new : List ℕ) (a : Outcome ℕ) (n : ℕ) → a ≡ accepted n → Listed job old a new → Listed job old (accepted n) new
 listed-as job old new a n is h = subst (λ (x : Outcome ℕ). Listed job old x new) is h

@@ -42,8 +42,12 @@ use Rattle.calls.proofs.FillingLaws.{filled-opens, filled-same, filled-own, fil
 use Rattle.counts.proofs.CountsLaws.{counts-formula, counts-total, counts-find}
 use Rattle.job.specs.Limits.{jobRoom}
 use Rattle.job.proofs.JobLaws.{narrow-reads}
+use Rattle.formula.proofs.FoundLaws.{reading-one}
+use Rattle.read.proofs.OutcomeLaws.{read-one}
+use Rattle.typed.proofs.OrderLaws.{one-order}
+use Rattle.typed.proofs.KeyLaws.{one-key, keyed-only, key-cut}
 use Rattle.listing.proofs.ListingLaws.{one-listing, listed-only, listing-cut}
-use Rattle.theorems.specs.Theorems.{PairTheorems, SheetTheorems, FindTheorems, CountTheorems, CallTheorems, KnownTheorems, RowTheorems, Theorems}
+use Rattle.theorems.specs.Theorems.{PairTheorems, SheetTheorems, FindTheorems, CountTheorems, TypedTheorems, CallTheorems, KnownTheorems, RowTheorems, Theorems}
 
 pair-theorems : PairTheorems
 pair-theorems = record {
@@ -82,6 +86,9 @@ find-theorems = record {
 
 count-theorems : CountTheorems
 count-theorems = record { counts-formula = counts-formula; counts-total = counts-total; counts-find = counts-find }
+
+typed-theorems : TypedTheorems
+typed-theorems = record { reading-one = reading-one; read-one = read-one; order-one = one-order; key-one = one-key; keyed-only = keyed-only; key-cut = key-cut }
 
 call-theorems : CallTheorems
 call-theorems = record {
@@ -148,4 +155,4 @@ row-theorems = record {
 }
 
 pub theorems : Theorems
-theorems = (pair-theorems, sheet-theorems, find-theorems, count-theorems, call-theorems, known-theorems, row-theorems)
+theorems = (pair-theorems, sheet-theorems, find-theorems, count-theorems, typed-theorems, call-theorems, known-theorems, row-theorems)

@@ -1,6 +1,7 @@
--- The starred examples of document 01 with the moduli and the wide file of F-2, the quotients of F-5, the lengths of F-9, the roots of F-3 and the correction of F-6, as one list: closed terms of the definitions that
+-- The starred examples of document 01 with the moduli and the wide file of F-2, the quotients of F-5, the lengths of F-9, the roots of F-3, the correction of F-6 and the typed texts of F-1, as one list: closed terms of the definitions that
 -- the contracts cite. `starred` in proofs/StarredLaws is its proof: by evaluation, but for the moduli near 2^24, where laws say how little has to be
 -- evaluated.
+--   typed, minus-square, zero-power   the formulas (Y^2-X)*(Y+3) - 2*X*Y, -Y^2 and 0^0
 --   Starred    the list
 -- Assumes nothing.
 use Prim.Native.Nat.{ℕ, _-_}
@@ -24,6 +25,9 @@ use Rattle.correct.specs.Correct.{correctVerdict, corrected}
 use Rattle.calls.specs.Calls.{counting, countAnswers, countEnd}
 use Rattle.calls.specs.Replay.{callsTo, replayVerdict}
 use Rattle.counts.specs.Counts.{subsets, countWords, countsChecks}
+use Rattle.formula.specs.Formula.{plus, minus, none, sign, number, letterX, letterY, bracket, plain, raised, one, times, Sum, first, more, reads, unreadable}
+use Rattle.formula.specs.Grammar.{Derives}
+use Rattle.read.specs.Read.{readDegree, readWords, readChecks}
 use Rattle.text.specs.Text.{bytes, listingText}
 use Rattle.listing.specs.Listing.{jobGiven, rooted, listVerdict}
 
@@ -46,6 +50,20 @@ corrected-job = wholeOf 7 2 3 (6 ∷ 5 ∷ 0 ∷ 0 ∷ 0 ∷ 0 ∷ 1 ∷ 0 ∷ 0
 
 abbrev corrected-sheet : List ℕ
 corrected-sheet = 7 ∷ 2 ∷ 3 ∷ 3 ∷ 2 ∷ 13 ∷ 17 ∷ 26 ∷ 32 ∷ 32 ∷ 3 ∷ 3 ∷ 3 ∷ 1 ∷ 1 ∷ 6 ∷ 1 ∷ 6 ∷ 5 ∷ 0 ∷ 0 ∷ 0 ∷ 0 ∷ 1 ∷ 0 ∷ 0 ∷ 6 ∷ 6 ∷ 4 ∷ 1 ∷ 1 ∷ 3 ∷ []
+
+abbrev pub typed : Sum
+typed =
+    more
+    (first none (times
+    (one (plain (bracket (more (first none (one (raised letterY 2))) minus (one (plain letterX))))))
+    (plain (bracket (more (first none (one (plain letterY))) plus (one (plain (number 3))))))))
+    minus (times (times (one (plain (number 2))) (plain letterX)) (plain letterY))
+
+abbrev pub minus-square : Sum
+minus-square = first (sign minus) (one (raised letterY 2))
+
+abbrev pub zero-power : Sum
+zero-power = first none (one (raised (number 0) 0))
 
 -- a list of calls on the job's sheet, as the words that `replay` is given: to two terms; the correction, before and after a call with a word too few; an entry
 -- that is none; a number that is none; to three terms
@@ -217,3 +235,24 @@ Starred =
     × (judge (countsChecks 2 16 16) ≡ Refuse (refusal 10 17))
     × (judge (countsChecks 2 17 0) ≡ Refuse (refusal 24 0))
     × (judge (countsChecks 257 2 3) ≡ Refuse (refusal 24 0))
+    -- the typed example: its one reading, its degree and its rows, modulo 7 and X^3
+    × Derives (bytes "(Y^2-X)*(Y+3) - 2*X*Y") (reads typed)
+    × (readDegree 7 3 (reads typed) ≡ 3)
+    × (readWords 7 3 (reads typed) ≡ 0 ∷ 4 ∷ 0 ∷ 0 ∷ 4 ∷ 0 ∷ 3 ∷ 0 ∷ 0 ∷ 1 ∷ 0 ∷ 0 ∷ [])
+    × (judge (readChecks 7 3 21 (reads typed) 12) ≡ Pass)
+    × (judge (readChecks 7 3 21 (reads typed) 11) ≡ Refuse (refusal 10 12))
+    -- a minus before a power is no part of it; anything to the power 0 is 1; blanks may stand everywhere but in a number
+    × Derives (bytes "-Y^2") (reads minus-square)
+    × (readWords 7 1 (reads minus-square) ≡ 0 ∷ 0 ∷ 6 ∷ [])
+    × Derives (bytes " 0 ^ 000 ") (reads zero-power)
+    × (readWords 7 1 (reads zero-power) ≡ 1 ∷ [])
+    × Derives (bytes "1 2") unreadable
+    -- one sign alone, no power of a power, 255 the most, nine digits the most, and nothing is no polynomial
+    × Derives (bytes "1+-2") unreadable
+    × Derives (bytes "Y^2^3") unreadable
+    × Derives (bytes "Y^256") unreadable
+    × Derives (bytes "1234567890") unreadable
+    × Derives [] unreadable
+    × (judge (readChecks 7 3 0 unreadable 0) ≡ Refuse (refusal 17 0))
+    -- with one term X is 0
+    × (readWords 7 1 (reads (first none (one (plain letterX)))) ≡ 0 ∷ [])

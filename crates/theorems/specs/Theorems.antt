@@ -1,5 +1,5 @@
 -- The end theorems, in a row: what is promised of the calls, each with one plain sentence. `theorems` in proofs/TheoremsLaws proves them all.
---   PairTheorems, SheetTheorems, FindTheorems, CountTheorems, CallTheorems, KnownTheorems, RowTheorems, Theorems   the theorems, and all of them
+--   PairTheorems, SheetTheorems, FindTheorems, CountTheorems, TypedTheorems, CallTheorems, KnownTheorems, RowTheorems, Theorems   the theorems, and all of them
 -- Assumes nothing.
 use Prim.Native.Nat.{ℕ, suc, _+_, _-_, _*_, _^_, _%_, _≤_, _<_}
 use mathlib.Core.Path.{_≡_}
@@ -33,9 +33,14 @@ use Rattle.calls.specs.Afresh.{Afresh}
 use Rattle.calls.specs.Replay.{Replayed}
 use Rattle.calls.specs.Filling.{filled, Fills, SameFilled, OwnFilled, ApartFilled}
 use Rattle.counts.specs.Counts.{subsets, inY, splits, counted, countsChecks}
+use Rattle.formula.specs.Grammar.{Derives}
+use Rattle.read.specs.Read.{ReadOf}
 use Rattle.job.specs.Limits.{jobRoom}
 use Rattle.job.specs.Job.{place, field}
 use Rattle.listing.specs.Listing.{IsListing, Listed}
+use Rattle.typed.specs.Limits.{longestInput}
+use Rattle.typed.specs.Order.{Orders}
+use Rattle.typed.specs.Key.{IsKey, Keyed}
 
 -- The Weierstrass pair.
 pub record PairTheorems : Type 0 where
@@ -93,6 +98,21 @@ pub record CountTheorems : Type 0 where
   -- Those that are counted as not splitting are those that find, given them as they are, refuses by 9.
   pub counts-find : (p D : ℕ) (f : List ℕ) → judge (countsChecks p D (D + 1)) ≡ Pass → length f ≡ D → unreduced p f ≡ false → (room : ℕ)
       → (findVerdict (inY p D f) room ≡ Refuse (refusal 9 0)) ↔ (splits p D f ≡ false)
+
+-- Typed polynomials.
+pub record TypedTheorems : Type 0 where
+  -- Every text has exactly one reading: one formula, or none.
+  pub reading-one : (text : List ℕ) → One (Derives text)
+  -- Every call of read has exactly one outcome, refused or accepted, to the last word.
+  pub read-one : (p N : ℕ) (text old : List ℕ) → OneOutcome (ReadOf p N text old)
+  -- Typed input asks for exactly one polynomial, with modulus and terms, or for none ..
+  pub order-one : (input : List ℕ) → One (Orders input)
+  -- .. and comes to exactly one text ..
+  pub key-one : (input : List ℕ) → One (IsKey input)
+  -- .. so the call has one outcome only.
+  pub keyed-only : (input old : List ℕ) (a b : Outcome ℕ) (new new′ : List ℕ) → Keyed input old a new → Keyed input old b new′ → (a ≡ b) × (new ≡ new′)
+  -- More than 4,160 bytes need not be read to the end.
+  pub key-cut : (input text : List ℕ) (n : ℕ) → longestInput < n → n ≤ length input → IsKey (take n input) text → IsKey input text
 
 -- Lists of calls, and jobs.
 pub record CallTheorems : Type 0 where
@@ -160,4 +180,4 @@ pub record RowTheorems : Type 0 where
       → rowShift p (D₁ + D₂) N (rowProduct p D₁ D₂ N f g) c ≡ rowProduct p D₁ D₂ N (rowShift p D₁ N f c) (rowShift p D₂ N g c)
 
 abbrev pub Theorems : Type 0
-Theorems = PairTheorems × SheetTheorems × FindTheorems × CountTheorems × CallTheorems × KnownTheorems × RowTheorems
+Theorems = PairTheorems × SheetTheorems × FindTheorems × CountTheorems × TypedTheorems × CallTheorems × KnownTheorems × RowTheorems

@@ -2,7 +2,7 @@
 -- Assumes nothing.
 use mathlib.Core.Path.{refl, sym}
 use lib.Seq.{length-take-le}
-use Rattle.listing.proofs.ListingLaws.{first-fits, listed-all}
+use Rattle.listing.proofs.ListingLaws.{put-fits, listed-all}
 use borrow.Author.Needs.{needs}
 use Rattle.listing.proofs.list.Statement.{statement}
 use Rattle.listing.proofs.list.Tie as tie
@@ -14,13 +14,13 @@ write-text-requires : tie.Need-write-text-requires
 write-text-requires c κs = search needs
 
 array-share-prefix-bytes : tie.Need-array-share-prefix-bytes
-array-share-prefix-bytes c = first-fits (c .before .before .before .before .before .args .job .now) _ _ _ (c .before .write-text .ensures) .0
+array-share-prefix-bytes c = put-fits (c .before .write-text .ensures .puts) .0
 
 slice-aggregate-hand-over : tie.Need-slice-aggregate-hand-over
-slice-aggregate-hand-over c = sym (length-take-le (c .before .before .write-text .result) _ (first-fits (c .before .before .before .before .before .before .args .job .now) _ _ _ (c .before .before .write-text .ensures) .0))
+slice-aggregate-hand-over c = sym (length-take-le (c .before .before .write-text .result) _ (put-fits (c .before .before .write-text .ensures .puts) .0))
 
 hand-over-requires : tie.Need-hand-over-requires
-hand-over-requires c κs = first-fits (c .before .before .before .before .before .before .before .args .job .now) _ _ _ (c .before .before .before .write-text .ensures) .1
+hand-over-requires c κs = put-fits (c .before .before .before .write-text .ensures .puts) .1
 
 same-length : tie.Need-same-length
 same-length c = search needs

@@ -1,0 +1,4 @@
+pub mod Formula
+pub mod Grammar
+pub mod Limits
+pub mod internal

@@ -1,0 +1,3 @@
+pub mod Value
+pub mod Read
+pub mod internal

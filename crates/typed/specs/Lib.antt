@@ -1,0 +1,4 @@
+pub mod Limits
+pub mod Order
+pub mod Key
+pub mod internal
