@@ -26,31 +26,32 @@ extern "C" {
 #endif
 
 /* Why a call is refused. Checks run in the order of the numbers, but 17 to 19 come right after 4, 21 right after 6, and 24 right after 3; where a call is lent a
- * sheet and takes from it what it needs, 13 comes first, and 20 before 6. 22 and 23 are not in use. */
+ * sheet and takes from it what it needs, 13 comes first, 20 before 6, and 22 before 10. 23 is not in use. */
 enum bk_refusal {
     BK_ACCEPTED = 0,
-    BK_MODULUS_RANGE = 1, /* p is below 2 or above 16,777,215 */
-    BK_COMPOSITE = 2,     /* p is composite; detail: its least divisor above 1 */
-    BK_DEGREE = 3,        /* a degree bound, or a product's, is above 32; for opening a sheet and for counts also 0 */
-    BK_TERMS = 4,         /* n is outside 1..256 */
-    BK_ROWS = 5,          /* an input has more or fewer words than d and n give it, or there are not d lengths; replay: the words are no list of calls that fit */
-    BK_UNREDUCED = 6,     /* some coefficient, root or number is not below p; detail: the first one's position from 0, inputs counted on in the order given, and 0 for a corrected entry */
-    BK_NOT_MONIC = 7,     /* opening: row d is not 1, 0, 0, .. */
-    BK_ROOT_LIST = 8,     /* opening: the roots are none, more than d, or not strictly rising */
-    BK_UNSPLIT = 9,       /* opening: f at X = 0 is no product of the Y - root, each taken at least once; finding: it is no product of Y - c, whatever the c */
-    BK_SHORT = 10,        /* the output is too short; detail: the words (or bytes) needed */
-    BK_FLAT = 11,         /* pair: f has no row that is other than 0 at X = 0 */
-    BK_NO_UNIT = 12,      /* quotient: the divisor is 0, or its least power of X is above the dividend's; inverse: the series begins with 0, the number is 0 */
-    BK_SPOILED = 13,      /* the words are no sound sheet; or, continuing a pair, not its first h terms followed by zeros, or h is above n */
-    BK_BEYOND = 14,       /* the terms wanted are 0, more than n, or for a sheet more than its least known length */
-    BK_BEHIND = 15,       /* the terms wanted are fewer than those there */
-    BK_NO_FACTOR = 16,    /* there is no factor of this index */
-    BK_UNREADABLE = 17,   /* read: the text is no formula, or has more than 4,096 bytes */
-    BK_DEEP = 18,         /* read: the brackets are more than 32 deep */
-    BK_HIGH = 19,         /* read: some part of the formula has a degree above 32 in Y */
-    BK_ENTRY = 20,        /* there is no such entry to correct */
-    BK_KNOWN_TERMS = 21,  /* a count of known terms or a row's known length is outside 1..n, or a word past it is not 0 */
-    BK_MANY = 24          /* counts: there are more than 65,536 polynomials */
+    BK_MODULUS_RANGE = 1,  /* p is below 2 or above 16,777,215 */
+    BK_COMPOSITE = 2,      /* p is composite; detail: its least divisor above 1 */
+    BK_DEGREE = 3,         /* a degree bound, or a product's, is above 32; for opening a sheet and for counts also 0 */
+    BK_TERMS = 4,          /* n is outside 1..256 */
+    BK_ROWS = 5,           /* an input has more or fewer words than d and n give it, or there are not d lengths; replay: the words are no list of calls that fit */
+    BK_UNREDUCED = 6,      /* some coefficient, root or number is not below p; detail: the first one's position from 0, inputs counted on in the order given, and 0 for a corrected entry */
+    BK_NOT_MONIC = 7,      /* opening: row d is not 1, 0, 0, .. */
+    BK_ROOT_LIST = 8,      /* opening: the roots are none, more than d, or not strictly rising */
+    BK_UNSPLIT = 9,        /* opening: f at X = 0 is no product of the Y - root, each taken at least once; finding: it is no product of Y - c, whatever the c */
+    BK_SHORT = 10,         /* the output is too short; detail: the words (or bytes) needed */
+    BK_FLAT = 11,          /* pair: f has no row that is other than 0 at X = 0 */
+    BK_NO_UNIT = 12,       /* quotient: the divisor is 0, or its least power of X is above the dividend's; inverse: the series begins with 0, the number is 0 */
+    BK_SPOILED = 13,       /* the words are no sound sheet; or, continuing a pair, not its first h terms followed by zeros, or h is above n */
+    BK_BEYOND = 14,        /* the terms wanted are 0, more than n, or for a sheet more than its least known length */
+    BK_BEHIND = 15,        /* the terms wanted are fewer than those there */
+    BK_NO_FACTOR = 16,     /* there is no factor of this index */
+    BK_UNREADABLE = 17,    /* read: the text is no formula, or has more than 4,096 bytes */
+    BK_DEEP = 18,          /* read: the brackets are more than 32 deep */
+    BK_HIGH = 19,          /* read: some part of the formula has a degree above 32 in Y */
+    BK_ENTRY = 20,         /* there is no such entry to correct */
+    BK_KNOWN_TERMS = 21,   /* a count of known terms or a row's known length is outside 1..n, or a word past it is not 0 */
+    BK_MULTIPLE_ROOT = 22, /* roots: some root at X = 0 has a power above 1; detail: the least such root */
+    BK_MANY = 24           /* counts: there are more than 65,536 polynomials */
 };
 
 static inline uint32_t bk_refused(uint64_t result) { return (uint32_t)(result >> 32); } /* 0 where the call was accepted */
@@ -118,6 +119,10 @@ uint64_t bk_sheet_factor(const uint32_t *sheet, size_t sheet_count, uint32_t i, 
  * the detail of 6 are counted from the first word of the part. */
 uint64_t bk_sheet_factor_times(const uint32_t *sheet, size_t sheet_count, uint32_t i, uint32_t e, const uint32_t *g, size_t g_count, uint32_t *out, size_t out_count);
 uint64_t bk_sheet_factor_shift(const uint32_t *sheet, size_t sheet_count, uint32_t i, uint32_t c, uint32_t *out, size_t out_count);
+/* The roots of the polynomial as series, where all of them are simple at X = 0, that is, of power 1: then there are d, and for each root c, in rising order, a row of n
+ * words is written, the one series s that begins with c and has f(s) = 0 modulo X^k, k being the terms worked; columns from k up are 0. The answer is the number of
+ * words, rn, with r = d. Refused by 13, 22 or 10, in this order. */
+uint64_t bk_sheet_roots(const uint32_t *sheet, size_t sheet_count, uint32_t *out, size_t out_count);
 /* A list of calls, five words for each: the number of words lent to it, which are the sheet's first ones; its kind, 0 for extend or 1 for correct; and w, 0, 0 or
  * j, t and the entry. It writes two words for each call: 0 and the answer, or the refusal's number and detail. Refused by 5: the words are no multiple of five, or
  * some call lends more words than there are, is of neither kind, or is an extend whose last two words are not both 0. */
@@ -132,6 +137,11 @@ uint64_t bk_counts(uint32_t p, uint32_t d, uint32_t *out, size_t out_count);
 /* The listing of a job file of either kind, with fields of 16 bits or, after a first word of 0, of 32. Where the job names no roots (r = 0) they are found. For a
  * refused job it is the one line `refused NUMBER DETAIL`. The answer is the number of bytes written; the only refusal of the call itself is 10. */
 uint64_t bk_list(const uint8_t *job, size_t job_count, uint8_t *out, size_t out_count);
+/* The listing of the roots of the same job, as series. After the first line of bk_list's there is a line for each root, `Y =` and its n entries, a blank before each; an
+ * entry is printed as the number v that is congruent to it and has -p/2 < v <= p/2. Where bk_list's is a line `refused NUMBER DETAIL` this is the same line, and where
+ * some root has a power above 1 it is `refused 22 ROOT`, with the least such root. The answer is the number of bytes written; the only refusal of the call itself is
+ * 10. 9,216 bytes are always enough. */
+uint64_t bk_list_roots(const uint8_t *job, size_t job_count, uint8_t *out, size_t out_count);
 /* The answer key of typed lines: `MODULUS TERMS`, two numbers of 1 to 9 decimal digits with blanks between them and perhaps around them, then a line feed, and after
  * it a polynomial as bk_read takes it, at whose very end one line feed may stand. It is what bk_list gives for the job with the rows of this polynomial and r = 0.
  * Where the lines are refused it is the one line `refused NUMBER DETAIL`: by 17 where there are more than 4,160 bytes or the first line is another; then by 1, 2, 4
@@ -217,6 +227,9 @@ static inline uint64_t bk_sheet_factor_times_any(const uint32_t *sheet, size_t s
 static inline uint64_t bk_sheet_factor_shift_any(const uint32_t *sheet, size_t sheet_count, uint32_t i, uint32_t c, uint32_t *out, size_t out_count) {
     return bk_sheet_factor_shift(bk_words_in(sheet, sheet_count), sheet_count, i, c, bk_words_out(out, out_count), out_count);
 }
+static inline uint64_t bk_sheet_roots_any(const uint32_t *sheet, size_t sheet_count, uint32_t *out, size_t out_count) {
+    return bk_sheet_roots(bk_words_in(sheet, sheet_count), sheet_count, bk_words_out(out, out_count), out_count);
+}
 static inline uint64_t bk_sheet_replay_any(uint32_t *sheet, size_t sheet_count, const uint32_t *calls, size_t calls_count, uint32_t *answers, size_t answers_count) {
     return bk_sheet_replay(bk_words_out(sheet, sheet_count), sheet_count, bk_words_in(calls, calls_count), calls_count, bk_words_out(answers, answers_count), answers_count);
 }
@@ -225,6 +238,9 @@ static inline uint64_t bk_counts_any(uint32_t p, uint32_t d, uint32_t *out, size
 }
 static inline uint64_t bk_list_any(const uint8_t *job, size_t job_count, uint8_t *out, size_t out_count) {
     return bk_list(bk_bytes_in(job, job_count), job_count, bk_bytes_out(out, out_count), out_count);
+}
+static inline uint64_t bk_list_roots_any(const uint8_t *job, size_t job_count, uint8_t *out, size_t out_count) {
+    return bk_list_roots(bk_bytes_in(job, job_count), job_count, bk_bytes_out(out, out_count), out_count);
 }
 static inline uint64_t bk_key_any(const uint8_t *input, size_t input_count, uint8_t *out, size_t out_count) {
     return bk_key(bk_bytes_in(input, input_count), input_count, bk_bytes_out(out, out_count), out_count);
@@ -249,9 +265,11 @@ static inline uint64_t bk_key_any(const uint8_t *input, size_t input_count, uint
 #define bk_sheet_factor bk_sheet_factor_any
 #define bk_sheet_factor_times bk_sheet_factor_times_any
 #define bk_sheet_factor_shift bk_sheet_factor_shift_any
+#define bk_sheet_roots bk_sheet_roots_any
 #define bk_sheet_replay bk_sheet_replay_any
 #define bk_counts bk_counts_any
 #define bk_list bk_list_any
+#define bk_list_roots bk_list_roots_any
 #define bk_key bk_key_any
 
 #ifdef __cplusplus

@@ -1,6 +1,6 @@
 //! Document 01's examples, by the words that it prints, and what document 02 changes in them: the sheet that F-8 makes smaller, the moduli of F-2, the one call for
 //! the pair of F-4, the quotient of F-5, the known lengths of F-9, the roots that F-3 finds, the entry that F-6 corrects, what F-13 counts,
-//! and what F-1 reads.
+//! what F-1 reads, and the simple roots of F-10.
 
 use crate::random::Random;
 use crate::report::{engine, Outcome, Report};
@@ -11,11 +11,16 @@ fn example<T: PartialEq + std::fmt::Debug>(report: &mut Report, what: &str, is: 
     report.kind("document 01's examples");
 }
 
+/// Document 01's job: Y² − 1 − X modulo 7, three terms.
+const JOB: [u16; 17] = [7, 2, 3, 2, 12, 16, 1, 6, 6, 6, 0, 0, 0, 0, 1, 0, 0];
+
+fn file(fields: &[u16]) -> Vec<u8> {
+    fields.iter().flat_map(|field| field.to_le_bytes()).collect()
+}
+
 fn the_job(report: &mut Report) {
-    let fields: [u16; 17] = [7, 2, 3, 2, 12, 16, 1, 6, 6, 6, 0, 0, 0, 0, 1, 0, 0];
-    let job: Vec<u8> = fields.iter().flat_map(|field| field.to_le_bytes()).collect();
     let text = "mod 7 terms 3 degree 2 factors 2\nroot 1 power 1\nY^0: 6 3 1\nroot 6 power 1\nY^0: 1 4 6\n";
-    example(report, "the job", String::from_utf8(listing::text(&job)), Ok(text.to_string()));
+    example(report, "the job", String::from_utf8(listing::text(&file(&JOB))), Ok(text.to_string()));
 
     let f = [6, 6, 0, 0, 0, 0, 1, 0, 0];
     let mut words = [0; 32];
@@ -46,8 +51,7 @@ fn known_lengths(report: &mut Report) {
 /// The same job and the same polynomial with no roots given; and Y² + 1, which has none modulo 7.
 fn roots_found(report: &mut Report) {
     let what = "document 02, F-3: document 01's job without its roots";
-    let fields: [u16; 15] = [7, 2, 3, 0, 12, 12, 6, 6, 0, 0, 0, 0, 1, 0, 0];
-    let job: Vec<u8> = fields.iter().flat_map(|field| field.to_le_bytes()).collect();
+    let job = file(&[7, 2, 3, 0, 12, 12, 6, 6, 0, 0, 0, 0, 1, 0, 0]);
     let text = "mod 7 terms 3 degree 2 factors 2\nroot 1 power 1\nY^0: 6 3 1\nroot 6 power 1\nY^0: 1 4 6\n";
     report.expect(listing::text(&job) == text.as_bytes(), what);
     let mut words = [0; 32];
@@ -160,6 +164,23 @@ fn the_formula(report: &mut Report) {
     report.kind("the typed polynomial of document 02's F-1");
 }
 
+/// Document 01's two sheets: one has simple roots, and the other a root of power 2.
+fn simple_roots(report: &mut Report) {
+    let what = "document 02, F-10: the roots of document 01's job";
+    report.expect(listing::roots_text(&file(&JOB)) == b"mod 7 terms 3 degree 2 factors 2\nY = 1 -3 -1\nY = -1 3 1\n", what);
+    let mut words = [0; 32];
+    let opened = engine(sheet::open(7, 2, 3, &[6, 6, 0, 0, 0, 0, 1, 0, 0], &[3, 3], &[1, 6], &mut words));
+    report.expect(opened == Ok(32) && engine(sheet::roots(&words[..31], &mut [])) == Err((13, 0)), what);
+    for (k, expected) in [(1, [1, 0, 0, 6, 0, 0, 9]), (2, [1, 4, 0, 6, 3, 0, 9]), (3, [1, 4, 6, 6, 3, 1, 9])] {
+        let mut out = [9; 7];
+        report.expect(engine(sheet::extend(&mut words, k)) == Ok(k) && engine(sheet::roots(&words, &mut out[..5])) == Err((10, 6)), what);
+        report.expect(out == [9; 7] && engine(sheet::roots(&words, &mut out)) == Ok(6) && out == expected, what);
+    }
+    let opened = engine(sheet::open(2, 3, 2, &[0, 1, 0, 1, 1, 0, 1, 0], &[2; 3], &[0, 1], &mut words));
+    report.expect(opened == Ok(32) && engine(sheet::roots(&words, &mut [])) == Err((22, 0)), what);
+    report.kind("the simple roots of document 02's F-10");
+}
+
 /// Y^d with n columns, opened with the root 0.
 fn power_of_y(d: u32, n: u32, room: usize) -> Outcome {
     let width = n as usize;
@@ -191,4 +212,5 @@ pub fn run(_: &mut Random, report: &mut Report) {
     a_correction(report);
     the_counts(report);
     the_formula(report);
+    simple_roots(report);
 }

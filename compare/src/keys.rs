@@ -4,7 +4,7 @@
 use crate::formulas::{self, few_entries, number, term_by_term, DAMAGES};
 use crate::polynomials;
 use crate::random::Random;
-use crate::report::{engine, every_set, second, Called, Fault, Outcome, Report, KEY_LINE};
+use crate::report::{engine, every_set, said, second, Called, Fault, Outcome, Report, KEY_LINE};
 use bopkheul::{formula, listing};
 
 /// Y² − 1 − X modulo 7.
@@ -14,19 +14,11 @@ fn refused(number: u32, detail: u32) -> Vec<u8> {
     format!("refused {number} {detail}\n").into_bytes()
 }
 
-/// What a key says: a listing, or a refusal.
-fn said(text: &[u8]) -> Outcome {
-    let line = std::str::from_utf8(text).expect("a key is ASCII");
-    let Some(words) = line.strip_prefix("refused ") else { return Ok(0) };
-    let mut numbers = words.trim_end().split(' ').map(|word| word.parse().expect("two numbers follow"));
-    Err((numbers.next().expect("a number"), numbers.next().expect("a detail")))
-}
-
 /// The engine is lent the lines out of longer ones, so that it shows where a byte too many is read.
 fn call(random: &mut Random, report: &mut Report, lines: &[u8], room: usize) -> Called<u8> {
     let within = [&[random.pick(b"1 \n")], lines, &[random.pick(b"1 \n")]].concat();
     let input = || format!("lines {}", lines.escape_ascii());
-    let out: Vec<u8> = random.junk(room).iter().map(|&word| word as u8).collect();
+    let out = random.junk_bytes(room);
     let mine = |o: &mut [u8]| engine(formula::key(&within[1..=lines.len()], o));
     report.call("key", input, &[&within], &out, mine, |o| second(::second::listing::key(lines, o)))
 }
@@ -47,7 +39,7 @@ fn key(random: &mut Random, report: &mut Report, lines: &[u8]) -> Vec<u8> {
         report.kind(if room == needed - 1 { "key: refused, into a byte too few" } else { "key: refused, into fewer bytes" });
     }
     let text = &words[..needed];
-    report.outcome(KEY_LINE, said(text).err().map_or(0, |refusal| refusal.0));
+    report.line(KEY_LINE, text);
     text.to_vec()
 }
 

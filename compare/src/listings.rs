@@ -3,17 +3,26 @@
 use crate::polynomials::{self, Given};
 use crate::random::Random;
 use crate::report::{engine, second, Report, LINE};
+use crate::simple;
 use second::field::pow;
-use second::polynomial::{constant, product_of_all, words};
 
 /// How a file writes its fields: in 16 bits, or, after a first word of 0, in 32.
 #[derive(Clone, Copy, PartialEq)]
-enum Kind {
+pub enum Kind {
     Narrow,
     Wide,
 }
 
 impl Kind {
+    /// Either of the two that p fits.
+    pub fn either(random: &mut Random, p: u32) -> Kind {
+        if p > 65535 || random.once_in(2) {
+            Kind::Wide
+        } else {
+            Kind::Narrow
+        }
+    }
+
     /// The bytes of the head.
     fn head(self) -> u32 {
         match self {
@@ -35,6 +44,10 @@ impl Kind {
             Kind::Narrow => fields.iter().flat_map(|&field| (field as u16).to_le_bytes()).collect(),
             Kind::Wide => [0; 2].into_iter().chain(fields.iter().flat_map(|field| field.to_le_bytes())).collect(),
         }
+    }
+
+    pub fn file(self, given: &Given) -> Vec<u8> {
+        self.bytes(&self.fields(given))
     }
 
     /// The file's fields: p, D, N, r, two byte offsets, roots, rows, all of them known.
@@ -90,7 +103,7 @@ fn spoil_first_word(random: &mut Random, report: &mut Report, kind: Kind, file: 
 
 fn job(random: &mut Random, report: &mut Report) -> Vec<u8> {
     let (p, d, n) = (random.prime(), random.degree().clamp(1, 13), random.columns().min(65));
-    let kind = if p > 65535 || random.once_in(2) { Kind::Wide } else { Kind::Narrow };
+    let kind = Kind::either(random, p);
     let mut given = polynomials::known(random, report, p, d, n);
     if random.once_in(3) {
         given.roots.clear();
@@ -117,7 +130,7 @@ fn job(random: &mut Random, report: &mut Report) -> Vec<u8> {
 }
 
 /// Whether the file has a head that says r = 0.
-fn names_no_roots(job: &[u8]) -> bool {
+pub fn names_no_roots(job: &[u8]) -> bool {
     match job {
         [0, 0, ..] => job.get(14..18) == Some(&[0; 4]),
         _ => job.get(6..8) == Some(&[0; 2]),
@@ -143,16 +156,16 @@ fn note_kind(report: &mut Report, job: &[u8], text: &str) {
     }
 }
 
-fn compare(random: &mut Random, report: &mut Report, job: &[u8]) {
+/// Both listings of a job, that of its factors and that of its roots.
+pub fn compare(random: &mut Random, report: &mut Report, job: &[u8]) {
     let text = second::listing::text(job);
-    let refusal = text.strip_prefix("refused ").and_then(|rest| rest.split(' ').next());
-    let number = refusal.map_or(0, |number| number.parse().expect("a number follows"));
-    report.outcome(LINE, number);
+    report.line(LINE, text.as_bytes());
     note_kind(report, job, &text);
     let room = random.room(text.len());
-    let out: Vec<u8> = random.junk(room).iter().map(|&word| word as u8).collect();
+    let out = random.junk_bytes(room);
     let input = || format!("job {job:?}");
     report.call("list", input, &[job], &out, |o| engine(bopkheul::listing::list(job, o)), |o| second(second::listing::list(job, o)));
+    simple::listed(random, report, job, &text);
 }
 
 /// Y² − 1 − X modulo p, three terms.
@@ -219,32 +232,28 @@ fn every_length(random: &mut Random, report: &mut Report, kind: Kind, given: &Gi
     }
 }
 
-/// Twelve factors Y + s, 64 columns, modulo the largest prime. A root and its s at X = 0 come to p, so one of them has seven digits; all else has eight.
+/// Twelve factors Y − s, 64 columns, modulo the largest prime. A root and its −s at X = 0 come to p, so one of them has seven digits; all else has eight.
 fn longest(random: &mut Random, report: &mut Report) {
-    let (p, n) = (16_777_213u32, 64);
-    let roots: Vec<u32> = (0..12).map(|i| 10_000_000 + 480_000 * i + random.below(480_000)).collect();
-    let factor = |random: &mut Random, root: u32| {
-        let mut s: Vec<u64> = (0..n).map(|_| random.within(10_000_000, p - 1) as u64).collect();
-        s[0] = (p - root) as u64;
-        vec![s, constant(1, n)]
+    let p = 16_777_213;
+    let series = |i: u32| {
+        let root = 10_000_000 + 480_000 * i + random.below(480_000);
+        [root].into_iter().chain((1..64).map(|_| p - random.within(10_000_000, p - 1))).collect()
     };
-    let factors: Vec<_> = roots.iter().map(|&root| factor(random, root)).collect();
-    let f = words(&product_of_all(p as u64, n, &factors));
-    let given = Given { p, d: 12, n: n as u32, f, lengths: vec![n as u32; 12], roots };
-    let mut file = Kind::Wide.bytes(&Kind::Wide.fields(&given));
+    let given = polynomials::with_root_series(p, &(0..12).map(series).collect::<Vec<_>>());
+    let mut file = Kind::Wide.file(&given);
     let text = second::listing::text(&file);
     report.expect(file.len() == 3402 && text.len() == 7267, &format!("the longest file has {} bytes, and its listing {}", file.len(), text.len()));
     report.kind("job: the longest file and the longest listing, 3,402 and 7,267 bytes");
     compare(random, report, &file);
     file.push(0);
     compare(random, report, &file);
-    compare(random, report, &Kind::Wide.bytes(&Kind::Wide.fields(&Given { roots: vec![], ..given })));
+    compare(random, report, &Kind::Wide.file(&Given { roots: vec![], ..given }));
 }
 
 /// With the list of its roots and without it a polynomial has the same listing; and what stands in the file is what r says, or the file is refused.
 fn without_roots(random: &mut Random, report: &mut Report) {
     let (p, d, n) = (random.prime(), random.within(1, 12), random.within(1, 16));
-    let kind = if p > 65535 || random.once_in(2) { Kind::Wide } else { Kind::Narrow };
+    let kind = Kind::either(random, p);
     let given = polynomials::known(random, report, p, d, n);
     let (listed, found) = (kind.fields(&given), kind.fields(&Given { roots: vec![], ..given.clone() }));
     let text = |fields: &[u32]| bopkheul::listing::text(&kind.bytes(fields));

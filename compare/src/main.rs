@@ -24,15 +24,19 @@ mod report;
 mod rows;
 mod series;
 mod sheets;
+mod simple;
 mod typed;
 
 use random::Random;
 use report::Report;
+use std::num::NonZero;
 use std::process::exit;
+use std::sync::atomic::{AtomicUsize, Ordering};
+use std::thread::{available_parallelism, scope, Builder};
 
 type Section = fn(&mut Random, &mut Report);
 
-const SECTIONS: [Section; 18] = [
+const SECTIONS: [Section; 19] = [
     documents::run,
     numbers::run,
     series::run,
@@ -51,7 +55,11 @@ const SECTIONS: [Section; 18] = [
     counts::run,
     typed::run,
     keys::run,
+    simple::run,
 ];
+
+/// As much as a main thread has: brackets in a typed text are read by calls within calls.
+const STACK: usize = 8 << 20;
 
 fn seeds() -> Vec<u64> {
     let given: Vec<u64> = std::env::args().skip(1).map(|word| word.parse().expect("a seed is a number")).collect();
@@ -62,14 +70,31 @@ fn seeds() -> Vec<u64> {
     }
 }
 
-fn main() {
-    let mut report = Report::default();
-    for seed in seeds() {
-        for (i, section) in SECTIONS.iter().enumerate() {
-            section(&mut Random::new(seed * 1000 + i as u64), &mut report);
+/// Runs the sections of all seeds, as many at a time as there are processors: each case has its own random numbers, so none depends on another.
+fn compared(seeds: &[u64]) -> Report {
+    let jobs = seeds.len() * SECTIONS.len();
+    let next = AtomicUsize::new(0);
+    let work = || {
+        let mut report = Report::default();
+        loop {
+            let job = next.fetch_add(1, Ordering::Relaxed);
+            if job >= jobs {
+                return report;
+            }
+            let (seed, i) = (seeds[job / SECTIONS.len()], job % SECTIONS.len());
+            SECTIONS[i](&mut Random::new(seed * 1000 + i as u64), &mut report);
         }
-    }
-    if !report.print() {
+    };
+    let workers = available_parallelism().map_or(1, NonZero::get);
+    scope(|scope| {
+        let start = |_| Builder::new().stack_size(STACK).spawn_scoped(scope, work).expect("a thread can be started");
+        let running: Vec<_> = (0..workers).map(start).collect();
+        running.into_iter().fold(Report::default(), |all, worker| all.with(worker.join().expect("a section does not panic")))
+    })
+}
+
+fn main() {
+    if !compared(&seeds()).print() {
         println!("A kind of case did not come up.");
         exit(1);
     }

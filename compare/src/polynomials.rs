@@ -2,6 +2,7 @@
 
 use crate::random::Random;
 use crate::report::Report;
+use second::polynomial::{constant, product_of_all, words};
 
 #[derive(Clone, Debug)]
 pub struct Given {
@@ -170,6 +171,15 @@ pub fn with_start(random: &mut Random, p: u32, n: u32, start: &[u32], roots: &[u
         f[j * width] = a;
     }
     Given { p, d: d as u32, n, f, lengths: vec![n; d], roots: roots.to_vec() }
+}
+
+/// The product of the Y − s, all of it known. The numbers with which the s begin rise.
+pub fn with_root_series(p: u32, series: &[Vec<u32>]) -> Given {
+    let (d, n) = (series.len(), series[0].len());
+    let line = |s: &Vec<u32>| vec![s.iter().map(|&a| ((p - a) % p) as u64).collect(), constant(1, n)];
+    let factors: Vec<_> = series.iter().map(line).collect();
+    let roots = series.iter().map(|s| s[0]).collect();
+    Given { p, d: d as u32, n: n as u32, f: words(&product_of_all(p as u64, n, &factors)), lengths: vec![n as u32; d], roots }
 }
 
 /// With any number of roots, and all of it known.

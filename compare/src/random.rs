@@ -72,6 +72,10 @@ impl Random {
         (0..count).map(|_| self.next() as u32).collect()
     }
 
+    pub fn junk_bytes(&mut self, count: usize) -> Vec<u8> {
+        self.junk(count).iter().map(|&word| word as u8).collect()
+    }
+
     /// A number of columns: mostly few, now and then up to the limit and one past it.
     pub fn columns(&mut self) -> u32 {
         match self.below(24) {

@@ -16,6 +16,14 @@ pub fn second(answer: second::Answer) -> Outcome {
     answer.map_err(|r| (r.number, r.detail))
 }
 
+/// What a text says that a job or typed lines come to: that it is a listing, or a refusal.
+pub fn said(text: &[u8]) -> Outcome {
+    let line = std::str::from_utf8(text).expect("such a text is ASCII");
+    let Some(words) = line.strip_prefix("refused ") else { return Ok(0) };
+    let mut numbers = words.trim_end().split(' ').map(|word| word.parse().expect("two numbers follow"));
+    Err((numbers.next().expect("a number"), numbers.next().expect("a detail")))
+}
+
 /// What a call of both came to.
 pub struct Called<W> {
     pub outcome: Outcome,
@@ -41,10 +49,12 @@ const ROWS: &[u32] = &[1, 2, 3, 4, 5, 6, 10];
 
 /// Not a call of its own: what the lines say that `list` writes, which is a refusal's number or a listing.
 pub const LINE: &str = "list's line";
-/// The same of those that `key` writes.
+/// The same of those that `list_roots` writes.
+pub const ROOTS_LINE: &str = "list roots' line";
+/// And of those that `key` writes.
 pub const KEY_LINE: &str = "key's line";
 
-pub const OPERATIONS: [Operation; 29] = [
+pub const OPERATIONS: [Operation; 32] = [
     operation("sum", NUMBER),
     operation("difference", NUMBER),
     operation("product", NUMBER),
@@ -68,16 +78,19 @@ pub const OPERATIONS: [Operation; 29] = [
     operation("sheet factor", &[10, 13, 16]),
     operation("sheet factor times", &[3, 5, 6, 10, 13, 16]),
     operation("sheet factor shift", &[6, 10, 13, 16]),
+    operation("sheet roots", &[10, 13, 22]),
     operation("sheet replay", &[5, 10]),
     operation("counts", &[1, 2, 3, 10, 24]),
     operation("list", &[10]),
     operation(LINE, &[1, 2, 3, 4, 5, 6, 7, 8, 9]),
+    operation("list roots", &[10]),
+    operation(ROOTS_LINE, &[1, 2, 3, 4, 5, 6, 7, 8, 9, 22]),
     operation("key", &[10]),
     operation(KEY_LINE, &[1, 2, 3, 4, 7, 9, 17, 18, 19]),
 ];
 
 /// Kinds of inputs: each must have come up.
-pub const KINDS: [&str; 321] = [
+pub const KINDS: [&str; 361] = [
     "document 01's examples",
     "the sheet of document 02's F-8",
     "the moduli of document 02's F-2",
@@ -87,6 +100,7 @@ pub const KINDS: [&str; 321] = [
     "the correction of document 02's F-6",
     "the counts of document 02's F-13",
     "the typed polynomial of document 02's F-1",
+    "the simple roots of document 02's F-10",
     "every modulus from 0 to 66,000",
     "every modulus from 16,776,000 to 16,778,000",
     "a prime below 4,096, squared",
@@ -285,6 +299,30 @@ pub const KINDS: [&str; 321] = [
     "counts: refused, p^D modulo 2^32 is at most 65,536",
     "counts: refused, into D words or fewer",
     "counts: every set of refusals at once",
+    "simple roots: p is 2, one root",
+    "simple roots: p is 2, two roots",
+    "simple roots: every number below p, above 2",
+    "simple roots: p is above 65,535",
+    "simple roots: one root",
+    "simple roots: 32 roots and 256 columns",
+    "simple roots: N is 1",
+    "simple roots: k is 1, below N",
+    "simple roots: k between 1 and N",
+    "simple roots: k is N, above 1",
+    "simple roots: k is the least length, below N",
+    "simple roots: words past the sheet's end",
+    "simple roots: words past the roots",
+    "simple roots: into as many words as they take",
+    "simple roots: a sheet whose roots were found",
+    "simple roots: refused, into a word too few",
+    "simple roots: refused, into fewer words",
+    "simple roots: refused, the first root alone is multiple",
+    "simple roots: refused, the last root alone is multiple",
+    "simple roots: refused, a root between alone is multiple",
+    "simple roots: refused, all roots from one on are multiple",
+    "simple roots: refused, a damaged sheet of simple roots",
+    "simple roots: refused, a damaged sheet of multiple roots",
+    "simple roots: every set of refusals at once",
     "typed: refused, into a word too few",
     "typed: words past the end",
     "typed: 0",
@@ -386,6 +424,21 @@ pub const KINDS: [&str; 321] = [
     "job: no roots, every set of refusals at once",
     "job: every length of a file",
     "job: the longest file and the longest listing, 3,402 and 7,267 bytes",
+    "roots' listing: of 16-bit fields",
+    "roots' listing: wide",
+    "roots' listing: no roots named",
+    "roots' listing: p is 2",
+    "roots' listing: bytes past the end",
+    "roots' listing: an entry is 0",
+    "roots' listing: an entry is (p − 1) / 2",
+    "roots' listing: an entry is (p + 1) / 2",
+    "roots' listing: an entry is p − 1",
+    "roots' listing: p is 2, and an entry 1",
+    "roots' listing: the longest, 7,003 bytes",
+    "roots' listing: refused by 22, no roots named",
+    "roots' listing: refused by 22, roots named",
+    "roots' listing: refused, into a byte too few",
+    "roots' listing: refused, into fewer bytes",
     "old layout: a stored sheet of one or two roots",
     "old layout: a stored sheet of three roots or more",
     "old layout: a sheet without lengths, of one or two roots",
@@ -413,8 +466,25 @@ impl Report {
         *self.kinds.entry(kind).or_default() += 1;
     }
 
-    pub fn outcome(&mut self, operation: &'static str, number: u32) {
+    fn outcome(&mut self, operation: &'static str, outcome: Outcome) {
+        let number = outcome.err().map_or(0, |refusal| refusal.0);
         *self.outcomes.entry((operation, number)).or_default() += 1;
+    }
+
+    /// The counts of both.
+    pub fn with(mut self, other: Report) -> Report {
+        for (key, count) in other.outcomes {
+            *self.outcomes.entry(key).or_default() += count;
+        }
+        for (kind, count) in other.kinds {
+            *self.kinds.entry(kind).or_default() += count;
+        }
+        self
+    }
+
+    /// A text that was written.
+    pub fn line(&mut self, operation: &'static str, text: &[u8]) {
+        self.outcome(operation, said(text));
     }
 
     /// One call of both: the outcome and every word lent must be the same, a refusal must leave the words as they were, and the engine must leave its
@@ -436,8 +506,7 @@ impl Report {
             differ(operation, &input(), lent, &format!("the engine wrote to its inputs, which were {before:?}"));
         }
         let expected = second(&mut other);
-        let number = answer.err().map_or(0, |refusal| refusal.0);
-        self.outcome(operation, number);
+        self.outcome(operation, answer);
         if answer != expected {
             differ(operation, &input(), lent, &format!("the engine answers {answer:?}, the second implementation {expected:?}"));
         }
@@ -479,7 +548,7 @@ impl Report {
             println!("  {kind:<80} {count:>8}");
             complete &= count > 0;
         }
-        let calls = self.outcomes.iter().filter(|((name, _), _)| ![LINE, KEY_LINE].contains(name));
+        let calls = self.outcomes.iter().filter(|((name, _), _)| ![LINE, ROOTS_LINE, KEY_LINE].contains(name));
         println!("\n{} calls compared, no difference.", calls.map(|(_, count)| count).sum::<u64>());
         complete
     }

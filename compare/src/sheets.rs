@@ -8,6 +8,7 @@ use crate::polynomials::{self, Given};
 use crate::random::Random;
 use crate::reading;
 use crate::report::{engine, second, Called, Report};
+use crate::simple::roots;
 use bopkheul::sheet as e;
 use second::sheet as s;
 
@@ -218,8 +219,9 @@ fn judge_changed(random: &mut Random, report: &mut Report, changed: &[u32]) -> b
     let w = random.below(changed.get(2).map_or(4, |n| n.wrapping_add(2)).max(1));
     let extended = extend(report, changed, w).outcome;
     let corrected = correct(report, changed, random.below(3), random.below(w.max(3)), random.below(4)).outcome;
-    let as_test_says = [extended, corrected].map(|outcome| sound != (outcome == Err((13, 0))));
-    report.expect(as_test_says == [true; 2], &format!("extend and correct refuse 13 where test says no, and only there: {changed:?}"));
+    let rooted = roots(report, changed, &[]).outcome;
+    let as_test_says = [extended, corrected, rooted].map(|outcome| sound != (outcome == Err((13, 0))));
+    report.expect(as_test_says == [true; 3], &format!("extend, correct and roots refuse 13 where test says no, and only there: {changed:?}"));
     report.kind(if sound { "correction: a sheet changed by hand, still sound" } else { "correction: a sheet changed by hand, not sound" });
     reading::any(random, report, changed);
     sound

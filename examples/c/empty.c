@@ -44,9 +44,11 @@ static void nothing_given(void) {
     say("sheet factor", bk_sheet_factor(NULL, 0, 0, NULL, 0));
     say("sheet factor times", bk_sheet_factor_times(NULL, 0, 0, D, NULL, 0, NULL, 0));
     say("sheet factor shift", bk_sheet_factor_shift(NULL, 0, 0, 1, NULL, 0));
+    say("sheet roots", bk_sheet_roots(NULL, 0, NULL, 0));
     say("sheet replay", bk_sheet_replay(NULL, 0, NULL, 0, NULL, 0));
     say("counts", bk_counts(P, D, NULL, 0));
     say("list", bk_list(NULL, 0, NULL, 0));
+    say("list roots", bk_list_roots(NULL, 0, NULL, 0));
     say("key", bk_key(NULL, 0, NULL, 0));
 }
 

@@ -1,5 +1,5 @@
-/* Splits Y^2 - 1 - X modulo 7 and prints its factors to 8 terms. The roots at X = 0, which are 1 and 6, are found; at the end a sheet is opened with the list of
- * them, which gives the same words. */
+/* Splits Y^2 - 1 - X modulo 7 and prints its factors to 8 terms, and its roots, which are simple. The roots at X = 0, which are 1 and 6, are found; at the end a sheet
+ * is opened with the list of them, which gives the same words. */
 #include "bopkheul.h"
 
 #include <stdio.h>
@@ -13,13 +13,17 @@ static int refused(const char *call, uint64_t result) {
     return 1;
 }
 
+static void print_row(const uint32_t *row) {
+    for (int t = 0; t < N; t++) printf(" %u", row[t]);
+    printf("\n");
+}
+
 static void print_factor(const uint32_t *sheet, const uint32_t factor[4]) {
     printf("root %u power %u\n", factor[0], factor[1]);
     const uint32_t *row = sheet + factor[2];
     for (uint32_t j = 0; j < factor[1]; j++, row += N) {
         printf("Y^%u:", j);
-        for (int t = 0; t < N; t++) printf(" %u", row[t]);
-        printf("\n");
+        print_row(row);
     }
 }
 
@@ -33,6 +37,13 @@ int main(void) {
         uint32_t factor[4];
         if (refused("factor", bk_sheet_factor(sheet, WORDS, i, factor, 4))) return 1;
         print_factor(sheet, factor);
+    }
+
+    uint32_t series[D * N]; /* a row for each root, of which there are D */
+    if (refused("roots", bk_sheet_roots(sheet, WORDS, series, D * N))) return 1;
+    for (int i = 0; i < D; i++) {
+        printf("Y =");
+        print_row(series + i * N);
     }
 
     const uint32_t roots[] = {1, 6};

@@ -1,6 +1,6 @@
 //! Document 01 once more, with document 02's F-8 (the sheet), F-2 (moduli of three bytes, wide job files), F-4 (one call for the pair), F-5 (quotients with X in
-//! common), F-9 (rows known to different lengths), F-3 (roots that are found), F-6 (an entry corrected), F-13 (how often it splits) and F-1 (typed polynomials): written
-//! from their text alone and by other methods than the engine's, so that a slip of one is not a slip of both.
+//! common), F-9 (rows known to different lengths), F-3 (roots that are found), F-6 (an entry corrected), F-13 (how often it splits), F-1 (typed polynomials) and
+//! F-10 (simple roots as series): written from their text alone and by other methods than the engine's, so that a slip of one is not a slip of both.
 //!
 //! | | engine | here |
 //! |---|---|---|
@@ -16,6 +16,8 @@
 //! | factors | two-factor splits along a tree, each by synthetic division | one linear system for each column, over all unknowns at once |
 //! | a corrected entry | the splits once more, where its column is worked | the linear systems once more, whatever its column is |
 //! | a factor's rows | a part of the sheet, by its place | the sheet taken apart, row after row |
+//! | simple roots as series | the factors' rows with the other sign | Newton's iteration on the root, from f and its number at X = 0 |
+//! | signed numbers | the number, or p less the number with a sign, whichever is less | a remainder between −p/2 and p/2 |
 //! | how often it splits | products of binomials | every product of lines multiplied out, and looked up among all polynomials |
 //! | a typed polynomial | one pass with a state and counts of digits and brackets; then functions for sum, term and element that call each other | brackets taken out from the innermost on, and sums cut at signs, `*` and `^` |
 //! | the first line of typed ones | byte after byte | cut at its blanks |
@@ -38,5 +40,6 @@ pub mod roots;
 pub mod rows;
 pub mod series;
 pub mod sheet;
+pub mod simple;
 
 pub use refusal::{Answer, Refusal};

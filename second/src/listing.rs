@@ -1,8 +1,9 @@
-//! The job file and its listing, and the answer key of typed lines, which is a listing too.
+//! The job file and its two listings, of factors and of simple roots, and the answer key of typed lines, which is a listing of factors too.
 
 use crate::formula;
 use crate::refusal::{composite, judge, modulus_range, short, when, Answer, Refusal};
 use crate::sheet;
+use crate::simple::signed;
 
 /// A job file taken apart: the fields that it begins with, and all after them.
 struct Job {
@@ -46,8 +47,8 @@ fn read(bytes: &[u8]) -> Result<Job, Refusal> {
     Ok(Job { p, d, n, r, rest: rest.to_vec() })
 }
 
-fn numbers(row: &[u32]) -> String {
-    row.iter().map(u32::to_string).collect::<Vec<_>>().join(" ")
+fn numbers<T: ToString>(row: impl Iterator<Item = T>) -> String {
+    row.map(|number| number.to_string()).collect::<Vec<_>>().join(" ")
 }
 
 fn factor_text(words: &[u32], n: usize, i: u32) -> Result<String, Refusal> {
@@ -57,13 +58,13 @@ fn factor_text(words: &[u32], n: usize, i: u32) -> Result<String, Refusal> {
     let mut text = format!("root {root} power {power}\n");
     let part = &words[start as usize..(start + length) as usize];
     for (j, row) in part.chunks(n).enumerate() {
-        text += &format!("Y^{j}: {}\n", numbers(row));
+        text += &format!("Y^{j}: {}\n", numbers(row.iter()));
     }
     Ok(text)
 }
 
-/// Opens, every row being known to N, and extends to N terms. Without a list the roots are found.
-fn worked(job: &Job) -> Result<String, Refusal> {
+/// The job's sheet, every row being known to N, extended to N terms. Without a list the roots are found.
+fn worked(job: &Job) -> Result<Vec<u32>, Refusal> {
     let (roots, rows) = job.rest.split_at(job.r as usize);
     let lengths = vec![job.n; job.d as usize];
     let mut words = vec![0; 11 + 12 + 2 * 12 + 25 * 64]; // the largest sheet of a job: 12 roots, degree 12, 64 columns
@@ -73,11 +74,28 @@ fn worked(job: &Job) -> Result<String, Refusal> {
     };
     words.truncate(total as usize);
     sheet::extend(&mut words, job.n)?;
-    let mut text = format!("mod {} terms {} degree {} factors {}\n", job.p, words[3], job.d, words[4]);
-    for i in 0..words[4] {
-        text += &factor_text(&words, job.n as usize, i)?;
+    Ok(words)
+}
+
+/// The first line of both listings.
+fn head_text(sheet: &[u32]) -> String {
+    format!("mod {} terms {} degree {} factors {}\n", sheet[0], sheet[3], sheet[1], sheet[4])
+}
+
+fn factors_text(sheet: &[u32]) -> Result<String, Refusal> {
+    let mut text = head_text(sheet);
+    for i in 0..sheet[4] {
+        text += &factor_text(sheet, sheet[2] as usize, i)?;
     }
     Ok(text)
+}
+
+fn series_text(sheet: &[u32]) -> Result<String, Refusal> {
+    let (p, n) = (sheet[0], sheet[2] as usize);
+    let mut rows = vec![0; 12 * 64]; // the most roots of a job, and its most columns
+    let written = sheet::roots(sheet, &mut rows)? as usize;
+    let line = |row: &[u32]| format!("Y = {}\n", numbers(row.iter().map(|&word| signed(p, word))));
+    Ok(head_text(sheet) + &rows[..written].chunks(n).map(line).collect::<String>())
 }
 
 /// A number of 1 to 9 digits.
@@ -106,8 +124,8 @@ fn typed(input: &[u8]) -> Result<Job, Refusal> {
     Ok(Job { p, d, n, r: 0, rest })
 }
 
-fn printed(job: Result<Job, Refusal>) -> String {
-    match job.and_then(|job| worked(&job)) {
+fn printed(job: Result<Job, Refusal>, text: fn(&[u32]) -> Result<String, Refusal>) -> String {
+    match job.and_then(|job| text(&worked(&job)?)) {
         Ok(text) => text,
         Err(Refusal { number, detail }) => format!("refused {number} {detail}\n"),
     }
@@ -121,7 +139,7 @@ fn put(text: String, out: &mut [u8]) -> Answer {
 
 /// What the program prints for a job file.
 pub fn text(bytes: &[u8]) -> String {
-    printed(read(bytes))
+    printed(read(bytes), factors_text)
 }
 
 /// Writes it, and answers the number of bytes.
@@ -129,9 +147,19 @@ pub fn list(job: &[u8], out: &mut [u8]) -> Answer {
     put(text(job), out)
 }
 
+/// What the program for simple roots prints for a job file.
+pub fn roots_text(bytes: &[u8]) -> String {
+    printed(read(bytes), series_text)
+}
+
+/// Writes it, and answers the number of bytes.
+pub fn list_roots(job: &[u8], out: &mut [u8]) -> Answer {
+    put(roots_text(job), out)
+}
+
 /// What the program prints for typed lines.
 pub fn key_text(input: &[u8]) -> String {
-    printed(typed(input))
+    printed(typed(input), factors_text)
 }
 
 /// Writes it, and answers the number of bytes.

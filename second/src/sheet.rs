@@ -6,12 +6,13 @@
 use crate::field::sub;
 use crate::linear::{apply, invert, Matrix};
 use crate::polynomial::{
-    at_zero, column, constant, cut, line_power, lower_words, polynomial, product_column, product_of_all, series, set_column, shift, truncated, words,
-    Polynomial,
+    at_zero, column, constant, cut, line_power, lower_words, polynomial, product_column, product_of_all, series, series_words, set_column, shift,
+    truncated, words, Polynomial,
 };
 use crate::refusal::{beyond, composite, judge, length, modulus_range, no_entry, short, terms, unknown, unreduced, when, Answer, Refusal};
-use crate::roots::roots;
+use crate::roots;
 use crate::rows;
+use crate::simple::root_series;
 
 /// The header words; after them stand the lengths.
 const HEADER: usize = 11;
@@ -134,6 +135,11 @@ impl Sheet {
     fn multiplies_out(&self) -> bool {
         let known: Vec<Polynomial> = self.factors.iter().map(|a| truncated(a, self.k)).collect();
         product_of_all(self.p as u64, self.k, &known) == truncated(&self.f, self.k)
+    }
+
+    /// The least root that is not simple.
+    fn multiple_root(&self) -> Option<u32> {
+        self.roots.iter().find(|&&(_, m)| m > 1).map(|&(c, _)| c)
     }
 
     /// To w terms.
@@ -260,7 +266,7 @@ pub fn open(p: u32, d: u32, n: u32, f: &[u32], lengths: &[u32], roots: &[u32], o
 /// The same with no list of roots: they are found. Where f has too few of them at X = 0, they do not give it, which is 9.
 pub fn find(p: u32, d: u32, n: u32, f: &[u32], lengths: &[u32], out: &mut [u32]) -> Answer {
     let f = judged(p, d, n, f, lengths, &[])?;
-    let roots: Vec<u32> = roots(p as u64, &column(&f, 0)).iter().map(|&c| c as u32).collect();
+    let roots: Vec<u32> = roots::roots(p as u64, &column(&f, 0)).iter().map(|&c| c as u32).collect();
     fresh(p, f, lengths, &roots, out)
 }
 
@@ -332,4 +338,18 @@ pub fn factor_shift(sheet: &[u32], i: u32, c: u32, out: &mut [u32]) -> Answer {
     let read = with_factor(sheet, i)?;
     let lower = lower_words(&read.factors[i as usize]);
     rows::shift(read.p, read.roots[i as usize].1 - 1, read.n as u32, &lower, c, out)
+}
+
+/// Where all roots are simple: for each of them the series that is a root of f, to k terms, and then 0. The answer is the number of words.
+pub fn roots(sheet: &[u32], out: &mut [u32]) -> Answer {
+    let read = sound(sheet).ok_or(spoiled())?;
+    let needed = read.roots.len() * read.n;
+    judge(&[(22, &|| read.multiple_root().map(|c| c as usize)), (10, &|| short(out, needed))])?;
+    let f = truncated(&read.f, read.k);
+    for (row, &(c, _)) in out.chunks_mut(read.n).zip(&read.roots) {
+        let mut s = root_series(read.p as u64, &f, c as u64);
+        s.resize(read.n, 0);
+        row.copy_from_slice(&series_words(&s));
+    }
+    Ok(needed as u32)
 }

@@ -1,10 +1,11 @@
 //! The examples of document 01, the sheet of F-8, F-2's moduli and job files, F-4's one call for the pair, F-5's quotients, F-9's known lengths, F-3's roots, F-6's
-//! corrections, F-13's counts, and F-1's typed polynomials.
+//! corrections, F-13's counts, F-1's typed polynomials, and F-10's simple roots.
 
 use second::calls::{replay, PlainCount};
 use second::counts::counts;
 use second::formula::read;
 use second::roots::roots;
+use second::simple::{root_series, signed, value};
 use second::{listing, numbers, pair, series, sheet, Refusal};
 
 fn refused(number: u32, detail: u32) -> Result<u32, Refusal> {
@@ -739,5 +740,83 @@ fn answer_keys() {
     assert_eq!(listing::key(b"7 3\nY^2-1-X", &mut out[..square.len() - 1]), refused(10, square.len() as u32));
     assert_eq!(out, [9; 99]);
     assert_eq!(listing::key(b"7 3\nY^2-1-X", &mut out), Ok(square.len() as u32));
+    assert_eq!((&out[..square.len()], &out[square.len()..]), (square.as_bytes(), &[9; 99][square.len()..]));
+}
+
+/// Document 01's square roots, ±(1 + X/2 − X²/8), to one, two and three terms.
+#[test]
+fn simple_roots_as_series() {
+    let (mut words, _) = opened_square([3, 3]);
+    for (k, expected) in [(1, [1, 0, 0, 6, 0, 0, 9]), (2, [1, 4, 0, 6, 3, 0, 9]), (3, [1, 4, 6, 6, 3, 1, 9])] {
+        assert_eq!(sheet::extend(&mut words, k), Ok(k));
+        let (before, mut out) = (words, [9; 7]);
+        assert_eq!(sheet::roots(&words, &mut out), Ok(6), "{k}");
+        assert_eq!((out, words), (expected, before), "{k}");
+        assert_eq!(sheet::roots(&words, &mut out[..6]), Ok(6), "{k}");
+    }
+}
+
+/// As many roots as there can be modulo a small p, and 20 terms, which is no power of 2.
+#[test]
+fn a_series_is_a_root() {
+    for p in [2, 3, 13, 65_521, 16_777_213] {
+        let of: Vec<u64> = (0..p.min(13)).map(|i| i * (p / 13).max(1)).collect();
+        let mut f: Vec<Vec<u64>> = (1..).zip(lines(p, &of)).map(|(j, a)| (0..20).map(|t| (a + j * t * t + t * t * t) % p).collect()).collect();
+        f.last_mut().expect("there is a top row")[1..].fill(0);
+        for c in of {
+            let s = root_series(p, &f, c);
+            assert_eq!((s[0], value(p, &f, &s)), (c, vec![0; 20]), "{p} {c}");
+        }
+    }
+}
+
+/// Modulo 5: Y² (Y − 1), Y (Y − 1)² and (Y − 1) (Y − 3)², and powers on both sides.
+#[test]
+fn a_multiple_root_comes_after_13_and_before_10() {
+    for (of, least) in [(&[0, 0, 1][..], 0), (&[0, 1, 1], 1), (&[1, 3, 3], 3), (&[0, 2, 2, 3, 4, 4, 4], 2)] {
+        let (d, f) = (of.len() as u32, lines(5, of).iter().map(|&a| a as u32).collect::<Vec<_>>());
+        let mut words = [9; 99];
+        let total = sheet::find(5, d, 1, &f, &vec![1; of.len()], &mut words).unwrap() as usize;
+        let mut out = [9; 9];
+        assert_eq!(sheet::roots(&words[..total - 1], &mut []), refused(13, 0), "{of:?}");
+        assert_eq!(sheet::roots(&words, &mut []), refused(22, least), "{of:?}");
+        assert_eq!(sheet::roots(&words, &mut out), refused(22, least), "{of:?}");
+        assert_eq!(out, [9; 9]);
+    }
+    let cubic = opened_cubic();
+    let mut out = [9; 5];
+    assert_eq!(sheet::roots(&cubic[..33], &mut out), refused(13, 0));
+    assert_eq!(sheet::roots(&cubic, &mut out), refused(10, 6));
+    assert_eq!(out, [9; 5]);
+}
+
+#[test]
+fn signed_numbers() {
+    assert_eq!([0, 1].map(|word| signed(2, word)), [0, 1]);
+    assert_eq!([0, 1, 2].map(|word| signed(3, word)), [0, 1, -1]);
+    assert_eq!([0, 1, 2, 3, 4, 5, 6].map(|word| signed(7, word)), [0, 1, 2, 3, -3, -2, -1]);
+    assert_eq!([8_388_606, 8_388_607, 16_777_212].map(|word| signed(16_777_213, word)), [8_388_606, -8_388_606, -1]);
+}
+
+/// Document 01's job with its roots and without, a wide one, one with a double root, and what is refused by both listings alike.
+#[test]
+fn listings_of_roots() {
+    let square = "mod 7 terms 3 degree 2 factors 2\nY = 1 -3 -1\nY = -1 3 1\n";
+    let file = job(&[7, 2, 3, 2, 12, 16, 1, 6, 6, 6, 0, 0, 0, 0, 1, 0, 0]);
+    assert_eq!(listing::roots_text(&file), square);
+    assert_eq!(listing::roots_text(&job(&[7, 2, 3, 0, 12, 12, 6, 6, 0, 0, 0, 0, 1, 0, 0])), square);
+    let wide = wide_job(&[16777213, 2, 3, 0, 26, 26, 16777212, 16777212, 0, 0, 0, 0, 1, 0, 0]);
+    let expected = "mod 16777213 terms 3 degree 2 factors 2\nY = 1 -8388606 -6291455\nY = -1 8388606 6291455\n";
+    assert_eq!(listing::roots_text(&wide), expected);
+    assert_eq!(listing::roots_text(&job(&[2, 2, 2, 0, 12, 12, 0, 1, 1, 0, 1, 0])), "mod 2 terms 2 degree 2 factors 2\nY = 0 1\nY = 1 1\n");
+    assert_eq!(listing::roots_text(&job(&[7, 2, 1, 0, 12, 12, 4, 4, 1])), "refused 22 5\n"); // (Y + 2)², and 5 is −2, but no entry
+    for refused in [&[][..], &job(&[7, 2, 1, 0, 12, 12, 1, 0, 1]), &job(&[9, 2, 1, 0, 12, 12, 4, 4, 1]), &file[1..], &file[..33]] {
+        assert_eq!(listing::roots_text(refused), listing::text(refused));
+    }
+
+    let mut out = [9; 99];
+    assert_eq!(listing::list_roots(&file, &mut out[..square.len() - 1]), refused(10, square.len() as u32));
+    assert_eq!(out, [9; 99]);
+    assert_eq!(listing::list_roots(&file, &mut out), Ok(square.len() as u32));
     assert_eq!((&out[..square.len()], &out[square.len()..]), (square.as_bytes(), &[9; 99][square.len()..]));
 }

@@ -1,5 +1,6 @@
 //! Polynomials as they are typed, and answer keys of them.
 
+use crate::listing::whole;
 use crate::raw::{answer, bk_key, bk_read};
 use crate::Answer;
 
@@ -61,9 +62,5 @@ pub fn key(input: impl AsRef<[u8]>, out: &mut [u8]) -> Answer {
 /// The refusals are 17 where there are more than 4,160 bytes or the first line is another; then 1, 2, 4 where the terms are outside 1..64, 17, 18, 19, 3 where the degree
 /// is outside 1..12, 7 or 9, in this order.
 pub fn key_text(input: impl AsRef<[u8]>) -> Vec<u8> {
-    let input = input.as_ref();
-    let needed = key(input, &mut []).unwrap_or_else(|short| short.detail);
-    let mut out = vec![0; needed as usize];
-    key(input, &mut out).expect("the key fits the bytes that it needs");
-    out
+    whole(|out| key(input.as_ref(), out))
 }

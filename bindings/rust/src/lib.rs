@@ -30,6 +30,8 @@
 //! [`formula::read`] takes a polynomial as it is typed, `(Y^2-X)*(Y+3) - 2*X*Y` for example, and writes its rows. [`formula::key_text`] is the
 //! answer key of what a lecturer types: modulus, terms and polynomial.
 //!
+//! Where all roots are simple at X = 0, [`Sheet::roots`] gives them as series, and [`listing::roots_text`] lists those of a job file.
+//!
 //! How often polynomials split whose coefficients are drawn by lot is said by [`counts::counts`].
 
 mod raw;

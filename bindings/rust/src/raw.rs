@@ -69,11 +69,13 @@ extern "C" {
     pub fn bk_sheet_factor(sheet: Words, sheet_count: usize, i: u32, out: Out, out_count: usize) -> u64;
     pub fn bk_sheet_factor_times(sheet: Words, sheet_count: usize, i: u32, e: u32, g: Words, g_count: usize, out: Out, out_count: usize) -> u64;
     pub fn bk_sheet_factor_shift(sheet: Words, sheet_count: usize, i: u32, c: u32, out: Out, out_count: usize) -> u64;
+    pub fn bk_sheet_roots(sheet: Words, sheet_count: usize, out: Out, out_count: usize) -> u64;
     pub fn bk_sheet_replay(sheet: Out, sheet_count: usize, calls: Words, calls_count: usize, answers: Out, answers_count: usize) -> u64;
 
     pub fn bk_counts(p: u32, d: u32, out: Out, out_count: usize) -> u64;
 
     pub fn bk_list(job: *const u8, job_count: usize, out: *mut u8, out_count: usize) -> u64;
+    pub fn bk_list_roots(job: *const u8, job_count: usize, out: *mut u8, out_count: usize) -> u64;
     pub fn bk_key(input: *const u8, input_count: usize, out: *mut u8, out_count: usize) -> u64;
 }
 

@@ -6,11 +6,12 @@ use std::fmt;
 pub struct Refusal {
     /// The row of the table of refusals.
     pub number: u32,
-    /// The least divisor for 2, the position of the first offender for 6 (0 for a corrected entry), the words or bytes needed for 10, otherwise 0.
+    /// The least divisor for 2, the position of the first offender for 6 (0 for a corrected entry), the words or bytes needed for 10, the least multiple root for 22,
+    /// otherwise 0.
     pub detail: u32,
 }
 
-/// The refusals by name, each with its number; 22 and 23 are not in use.
+/// The refusals by name, each with its number; 23 is not in use.
 #[derive(Clone, Copy, Debug, PartialEq, Eq, Hash)]
 #[non_exhaustive]
 pub enum Kind {
@@ -35,12 +36,13 @@ pub enum Kind {
     High,
     Entry,
     KnownTerms,
+    MultipleRoot,
     Many = 24,
     /// A number that this crate has no name for.
     Unknown,
 }
 
-const KINDS: [Kind; 22] = [
+const KINDS: [Kind; 23] = [
     Kind::ModulusRange,
     Kind::Composite,
     Kind::Degree,
@@ -62,6 +64,7 @@ const KINDS: [Kind; 22] = [
     Kind::High,
     Kind::Entry,
     Kind::KnownTerms,
+    Kind::MultipleRoot,
     Kind::Many,
 ];
 
@@ -100,6 +103,7 @@ impl fmt::Display for Refusal {
             Kind::High => write!(to, "some part of the formula has a degree above 32 in Y"),
             Kind::Entry => write!(to, "there is no such entry to correct: no such row, column 0, or a column past the row's known length"),
             Kind::KnownTerms => write!(to, "a count of known terms or a known length is not from 1 to the columns, or a word past it is not 0"),
+            Kind::MultipleRoot => write!(to, "the root {detail} at X = 0 has a power above 1"),
             Kind::Many => write!(to, "there are more than 65536 polynomials of this degree to count"),
             Kind::Unknown => write!(to, "a refusal with no name here, detail {detail}"),
         }

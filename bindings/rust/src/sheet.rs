@@ -26,7 +26,7 @@
 
 use crate::raw::{
     answer, bk_sheet_correct, bk_sheet_extend, bk_sheet_factor, bk_sheet_factor_shift, bk_sheet_factor_times, bk_sheet_find, bk_sheet_open,
-    bk_sheet_replay, bk_sheet_test,
+    bk_sheet_replay, bk_sheet_roots, bk_sheet_test,
 };
 use crate::{Answer, Refusal};
 use std::error::Error;
@@ -137,6 +137,18 @@ pub fn factor_times(sheet: &[u32], i: u32, e: u32, g: &[u32], out: &mut [u32]) -
 pub fn factor_shift(sheet: &[u32], i: u32, c: u32, out: &mut [u32]) -> Answer {
     // SAFETY: each pointer goes with the count of its slice, and `out` does not overlap the sheet.
     answer(unsafe { bk_sheet_factor_shift(sheet.as_ptr(), sheet.len(), i, c, out.as_mut_ptr(), out.len()) })
+}
+
+/// Writes the roots of the polynomial as series, where all of them are simple at X = 0, that is, of power 1. Then they are as many as the degree, and for each root c, in
+/// rising order, a row of n words is written: the one series s that begins with c and has f(s) = 0 modulo X^k, k being the terms worked. Columns from k up are 0. The
+/// answer is the number of words written.
+///
+/// # Errors
+///
+/// Refused by 13, 22 or 10, in this order; by 22 where some root has a power above 1, and then the detail is the least such root.
+pub fn roots(sheet: &[u32], out: &mut [u32]) -> Answer {
+    // SAFETY: each pointer goes with the count of its slice, and `out` does not overlap the sheet.
+    answer(unsafe { bk_sheet_roots(sheet.as_ptr(), sheet.len(), out.as_mut_ptr(), out.len()) })
 }
 
 /// A call of a list that [`replay`] makes. It is lent the first `lent` words of the sheet.
@@ -427,6 +439,30 @@ impl Sheet {
     /// Refused by 16, or as [`rows::shift`](crate::rows::shift) by 6 or 10.
     pub fn factor_shift(&self, i: u32, c: u32, out: &mut [u32]) -> Answer {
         factor_shift(&self.words, i, c, out)
+    }
+
+    /// The roots of the polynomial as series, where all of them are simple at X = 0: a row of [`Sheet::columns`] words for each, as [`roots`] writes them, one after the
+    /// other.
+    ///
+    /// ```
+    /// // the square roots of 1 + X modulo 7
+    /// let mut sheet = bopkheul::Sheet::find_known(7, 2, 3, &[6, 6, 0, 0, 0, 0, 1, 0, 0])?;
+    /// sheet.extend(3)?;
+    /// assert_eq!(sheet.roots()?, [1, 4, 6, /* and */ 6, 3, 1]);
+    ///
+    /// // Y² (Y − 1) + X: the root 0 is not simple
+    /// let refusal = bopkheul::Sheet::find_known(7, 3, 2, &[0, 1, 0, 0, 6, 0, 1, 0])?.roots().unwrap_err();
+    /// assert_eq!((refusal.kind(), refusal.detail), (bopkheul::Kind::MultipleRoot, 0));
+    /// # Ok::<(), bopkheul::Refusal>(())
+    /// ```
+    ///
+    /// # Errors
+    ///
+    /// Refused by 22 where some root has a power above 1; the detail is the least such root.
+    pub fn roots(&self) -> Result<Vec<u32>, Refusal> {
+        let mut rows = vec![0; (self.count() * self.columns()) as usize];
+        roots(&self.words, &mut rows)?;
+        Ok(rows)
     }
 
     /// p.

@@ -17,10 +17,11 @@ ghost use Rattle.series.specs.Quotient.{leastPower, quotientChecks, QuotientDon
 ghost use Rattle.rows.specs.Rows.{rowsChecks, productChecks, shiftChecks, rowSum, rowProduct, rowShift};
 ghost use Rattle.pair.specs.Paired.{pairChecks, PairDone};
 ghost use Rattle.pair.specs.Pair.{order};
-ghost use Rattle.layout.specs.Layout.{terms};
+ghost use Rattle.layout.specs.Layout.{width, terms, count};
 ghost use Rattle.sheet.specs.Sheet.{Given, givenOf};
 ghost use Rattle.sheet.specs.Test.{soundTest};
 ghost use Rattle.sheet.specs.Reading.{timesChecks, timesSize, timesWords, shiftedChecks, shiftedSize, shiftedWords};
+ghost use Rattle.simple.specs.Simple.{simpleVerdict, RootsDone};
 ghost use Rattle.open.specs.Open.{openVerdict, needed, OpenDone};
 ghost use Rattle.open.specs.Find.{withRoots, findVerdict};
 ghost use Rattle.extend.specs.Extend.{extendVerdict, ExtendDone};
@@ -28,6 +29,7 @@ ghost use Rattle.correct.specs.Correct.{correctVerdict, CorrectDone};
 ghost use Rattle.calls.specs.Replay.{callCount, callsTo, answerCount, replayVerdict, ReplayLeaves};
 ghost use Rattle.counts.specs.Counts.{countWords, countsChecks};
 ghost use Rattle.read.specs.Read.{ReadOf};
+ghost use Rattle.text.specs.declared.Profile.the-variants.{Factors, Roots};
 ghost use Rattle.listing.specs.Listing.{Listed};
 ghost use Rattle.typed.specs.Key.{Keyed};
 ghost use Rattle.capi.specs.Packed.{packed, packedNumber, Packs};
@@ -289,6 +291,15 @@ pub extern "C" fn bk_sheet_factor(sheet: &[u32], i: u32, out: &mut [u32]) -> u64
     4
 }
 
+// The roots of a sheet as series, all of which have power 1.
+#[no_mangle]
+pub extern "C" fn bk_sheet_roots(sheet: &[u32], out: &mut [u32]) -> u64
+    ensures answer { λ r. ⌜ r ≡ packed (result (simpleVerdict (now (sheet .entry)) (length (now (out .entry)))) (count (now (sheet .entry)) * width (now (sheet .entry)))) ⌝ }
+    ensures words { λ _. ⌜ Leaves (simpleVerdict (now (sheet .entry)) (length (now (out .entry)))) (RootsDone (now (sheet .entry)) (now (out .entry)) (now (out .exit))) (now (out .entry)) (now (out .exit)) ⌝ }
+{
+    pack(simple::simple_roots(sheet, out))
+}
+
 // The rows of factor i, times g, of degree bound e.
 #[no_mangle]
 pub extern "C" fn bk_sheet_factor_times(
@@ -344,9 +355,17 @@ pub extern "C" fn bk_read(p: u32, n: u32, text: &[u8], out: &mut [u32]) -> u64
 // The listing of a job file. The answer is its number of bytes.
 #[no_mangle]
 pub extern "C" fn bk_list(job: &[u8], out: &mut [u8]) -> u64
-    ensures { λ r. ⌜ Packs r (λ a. Listed (now (job .entry)) (now (out .entry)) a (now (out .exit))) ⌝ }
+    ensures { λ r. ⌜ Packs r (λ a. Listed Factors (now (job .entry)) (now (out .entry)) a (now (out .exit))) ⌝ }
 {
     pack(listing::list(job, out))
+}
+
+// The listing of a job's roots as series. The answer is its number of bytes.
+#[no_mangle]
+pub extern "C" fn bk_list_roots(job: &[u8], out: &mut [u8]) -> u64
+    ensures { λ r. ⌜ Packs r (λ a. Listed Roots (now (job .entry)) (now (out .entry)) a (now (out .exit))) ⌝ }
+{
+    pack(listing::list_roots(job, out))
 }
 
 // The answer key of typed input. The answer is its number of bytes.

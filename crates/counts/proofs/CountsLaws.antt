@@ -26,7 +26,7 @@ use Rattle.numbers.specs.declared.refusal.Verdict.the-variants.{Pass, Refuse}
 use Rattle.numbers.proofs.WordsLaws.{true-false}
 use Rattle.numbers.proofs.RefusalsLaws.{both, reduced}
 use Rattle.numbers.proofs.EnumerationLaws.{bit, none as no-sum, sumOver, sumOver-add, sumOver-scale, sumOver-swap, sumOver-sumTo, sumOver-every}
-use Rattle.roots.proofs.RootsLaws.{all-rising}
+use Rattle.rootfinding.proofs.RootsLaws.{all-rising}
 use Rattle.open.specs.Open.{choices, splitsTest, powersOf, isNone}
 use Rattle.open.specs.Find.{findVerdict}
 use Rattle.open.proofs.OpenChecksLaws.{rows-passes}

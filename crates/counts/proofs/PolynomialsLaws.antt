@@ -33,7 +33,7 @@ use Rattle.columns.proofs.ColumnLaws.{append-below}
 use Rattle.layout.specs.Layout.{rowsAt}
 use Rattle.hensel.specs.Factors.{split}
 use Rattle.hensel.proofs.FactorsLaws.{product-lt, rootsOf}
-use Rattle.roots.proofs.RootsLaws.{roots-below}
+use Rattle.rootfinding.proofs.RootsLaws.{roots-below}
 use Rattle.sheet.specs.Sheet.{Given, wholeOf, given-polynomial}
 use Rattle.sheet.proofs.ExistsLaws.{split-rem}
 use Rattle.open.specs.Open.{splitsTest, powersOf}

@@ -4,19 +4,22 @@
 --   list-refused, list-opens   the verdict of a job: its own checks', or else that of opening its sheet
 --   list-room, rooted-room     a sheet of `sheetRoom` words is room enough for every job
 --   opened-holds, extended-holds   opening, and then extend to N, leave a sheet that holds what the job gives
+--   roots-refused, roots-shown   the text of a sheet's roots
 --   text-refused, text-listed  the text under a verdict
---   wrote-refused, wrote-listed, given-listable   after opening: the refusal, or else extend to N
+--   wrote-refused, wrote-listed, given-shows   after opening: the refusal, or else extend to N
+--   wrote-as, wrote-factors    the text of a sheet, by the profile
+--   series-few, series-fits, series-ready, wrote-series   the series of a sheet's roots, in an array, and their text
 --   made-fits, made-first      the first words of an array, where a function made them; loaded-first, loaded-long where they are a job's
 --   wrote-early, wrote-job     the text of a job, by its own checks or by those of opening
 --   put-first, put-fits        a text that stands at the front of a buffer
 --   handed-fits, handed-never  a text handed over is within its room, and where there is room it is handed over
 --   listed-fits, listed-never  so a listing; `textRoom` bytes are always enough
---   listing-same               two sheets that hold it have one listing
+--   shows-one, shown-same      a sound sheet shows exactly one text, and two that hold the same show the same
 --   one-text                   under each verdict there is exactly one text
 --   one-listing, listed-only   each job comes to exactly one text; so listing it has one outcome only
 --   listing-cut                the first bytes of a file that is too long come to its text
 -- Assumes nothing.
-use Prim.Native.Nat.{ℕ, zero, suc, _+_, _*_, _≤_, _<_}
+use Prim.Native.Nat.{ℕ, zero, suc, _+_, _-_, _*_, _%_, _≤_, _<_}
 use native.Mathlib.Nat.{mul-le-mul, add-mul}
 use native.Mathlib.Omega.{arith}
 use mathlib.Core.Path.{_≡_, refl, sym, ap, ap₂, subst, _∙_}
@@ -33,11 +36,13 @@ use Rattle.numbers.specs.Refusals.{check, judge, refusal, Outcome, accepted, re
 use Rattle.numbers.specs.declared.refusal.Refusal.{Refusal}
 use Rattle.numbers.specs.declared.refusal.Verdict.{Verdict}
 use Rattle.numbers.specs.declared.refusal.Verdict.the-variants.{Pass, Refuse}
-use Rattle.numbers.specs.One.{One}
+use Rattle.numbers.specs.One.{TheOne, One}
 use Rattle.numbers.proofs.OneLaws.{one-same}
 use Rattle.numbers.proofs.RefusalsLaws.{after-pass, after-refuse, pass-parts, take-check, skip-check, none-judged, answer-refused, unlike, accepted-pass}
 use Rattle.numbers.proofs.WordsLaws.{tabulate-ext, length-tabulate}
-use Rattle.layout.specs.Layout.{modulus, degree, width, terms, count, reach, root, power, factor, rootsFrom, factorsFrom, end}
+use Rattle.rows.specs.Rows.{table}
+use Rattle.rows.proofs.RowsLaws.{table-ext}
+use Rattle.layout.specs.Layout.{rowsAt, modulus, degree, width, terms, count, reach, root, power, factor, rootsFrom, factorsFrom, end}
 use Rattle.sheet.specs.Sheet.{Sound, Given, givenOf, wholeOf, given-reach, Holds}
 use Rattle.layout.proofs.PlacesLaws.{upto-power}
 use Rattle.layout.proofs.RegionsLaws.{in-rows}
@@ -46,6 +51,9 @@ use Rattle.sheet.proofs.SoundTestLaws.{sound-test}
 use Rattle.sheet.proofs.SheetsLaws.{sound-terms}
 use Rattle.sheet.proofs.HoldsLaws.{whole-reach, holds-reach}
 use Rattle.sheet.proofs.UniqueLaws.{holds-unique}
+use Rattle.simple.specs.Simple.{SeriesRoots}
+use Rattle.simple.specs.internal.Factors.{multipleVerdict, AllSimple, rootSeries, rootWords}
+use Rattle.simple.proofs.SimpleLaws.{multiple-same, multiple-pass, rows-low, roots-one, roots-reduced}
 use Rattle.extend.specs.Extend.{extendVerdict, ExtendDone, Extended}
 use Rattle.extend.proofs.ExtendingLaws.{extend-holds}
 use Rattle.open.specs.Open.{needed, polynomialChecks, topChecks, splitChecks, openChecks, openVerdict, OpenDone, OpenedBy, Opened}
@@ -61,11 +69,13 @@ use Rattle.job.proofs.JobLaws.{place-mono, job-pass}
 use Rattle.job.proofs.LengthLaws.{too-long-not, cut-same}
 use Rattle.text.specs.Limits.{textRoom}
 use Rattle.text.specs.internal.Rooms.{sheetRoom, refusalRoom}
-use Rattle.text.specs.Text.{joinTo, rowLine, rowLines, rootLine, headLine, factorText, listingText, refusedText}
-use Rattle.text.specs.internal.Putting.{Listable, Puts}
+use Rattle.text.specs.Text.{joinTo, rowLine, rowLines, rootLine, headLine, factorText, listingText, rootsText, refusedText}
+use Rattle.text.specs.declared.Profile.{Profile}
+use Rattle.text.specs.declared.Profile.the-variants.{Factors, Roots}
+use Rattle.text.specs.internal.Putting.{Entries, Listable, Puts}
 use Rattle.text.proofs.TextLaws.{puts-as}
-use Rattle.listing.specs.Listing.{jobGiven, rooted, rootedChecks, listVerdict, TextOf, IsListing, roomVerdict, Listed}
-use Rattle.listing.specs.internal.Writing.{rootedVerdict, OpenedJob, Wrote, WroteGiven}
+use Rattle.listing.specs.Listing.{jobGiven, rooted, rootedChecks, listVerdict, RootsShown, Shows, TextOf, IsListing, roomVerdict, Listed}
+use Rattle.listing.specs.internal.Writing.{rootedVerdict, OpenedJob, Wrote, WroteSheet, WroteGiven}
 
 -- every sound sheet within a job's limits has its room
 pub listable : (s : List ℕ) → Sound s → degree s ≤ mostDegree → width s ≤ mostWidth → Listable s
@@ -75,6 +85,7 @@ listable s sound d n = record {
   width-low = omega (arith, sound .terms-low, sound-terms s sound);
   width-high = n;
   count-high = omega (arith, sumTo-count (count s) (power s) (sound .factors .powers), sound .factors .degree);
+  entries = record { small = sound .small; reduced = rows-low s sound };
 }
 
 -- roots listed, or found: what holds of both ways to open holds of a job's
@@ -172,6 +183,9 @@ module _ (g : Given) (k : ℕ) (s u : List ℕ) (hs : Holds g k s) (hu : Holds g
   agree i l =
       sym (getD-take (end s) s i 0 l) ∙ ap (λ (x : List ℕ). word x i) (holds-unique g k s u hs hu) ∙ getD-take (end s) u i 0 l
 
+  same-p : modulus s ≡ modulus u
+  same-p = agree 0 (omega arith)
+
   same-D : degree s ≡ degree u
   same-D = agree 1 (omega arith)
 
@@ -208,18 +222,29 @@ module _ (g : Given) (k : ℕ) (s u : List ℕ) (hs : Holds g k s) (hu : Holds g
   unfolding factorText rowLines
   same-lines i l =
       ap₂ _++_ (ap₂ rootLine (same-root i l) (same-power i l))
-      (join-ext (power s i) _ _ (λ j m. ap (rowLine j) (tabulate-ext (width s) (factor s i j) (factor u i j) (λ t n. same-factor i j t l m n)
+      (join-ext (power s i) _ _ (λ j m. ap₂ (λ (p : ℕ) (row : List ℕ). rowLine Factors p j row) same-p (tabulate-ext (width s) (factor s i j) (factor u i j) (λ t n. same-factor i j t l m n)
       ∙ ap (λ (N : ℕ). tabulate N (factor u i j)) same-N))
-      ∙ ap (λ (m : ℕ). joinTo m (λ j. rowLine j (tabulate (width u) (factor u i j)))) (same-power i l))
+      ∙ ap (λ (m : ℕ). joinTo m (λ j. rowLine Factors (modulus u) j (tabulate (width u) (factor u i j)))) (same-power i l))
 
-  pub listing-same : listingText s ≡ listingText u
+  same-head : headLine (modulus s) (terms s) (degree s) (count s) ≡ headLine (modulus u) (terms u) (degree u) (count u)
+  same-head = ap₂ (λ (p t : ℕ). headLine p t (degree s) (count s)) same-p (agree 3 (omega arith)) ∙ ap₂ (headLine (modulus u) (terms u)) same-D same-r
+
+  listing-same : listingText s ≡ listingText u
   unfolding listingText
-  listing-same =
-      ap₂ _++_
-      (ap (λ (p : ℕ). headLine p (terms s) (degree s) (count s)) (agree 0 (omega arith))
-      ∙ ap (λ (t : ℕ). headLine (modulus u) t (degree s) (count s)) (agree 3 (omega arith))
-      ∙ ap₂ (headLine (modulus u) (terms u)) same-D same-r)
-      (join-ext (count s) (factorText s) (factorText u) same-lines ∙ ap (λ (r : ℕ). joinTo r (factorText u)) same-r)
+  listing-same = ap₂ _++_ same-head (join-ext (count s) (factorText s) (factorText u) same-lines ∙ ap (λ (r : ℕ). joinTo r (factorText u)) same-r)
+
+  -- and one text of their roots
+  verdict-same : multipleVerdict s ≡ multipleVerdict u
+  verdict-same = multiple-same s u same-r same-root same-power
+
+  roots-same : AllSimple s → rootsText s (rootWords s) ≡ rootsText u (rootWords u)
+  unfolding rootsText
+  roots-same simple =
+      let words : rootWords s ≡ rootWords u = unfold rootWords in
+      table-ext (count s) (width s) _ _ (λ i t l n. ap₂ (λ (p x : ℕ). (p - x) % p) same-p (same-factor i 0 t l (omega (arith, simple i l)) n))
+      ∙ ap₂ (λ (r N : ℕ). table r N (rootSeries u)) same-r same-N in
+      let lines : (p N r : ℕ) → List ℕ → List ℕ = λ p N r h. rowLines Roots p N r (rowsAt h 0 N) in
+      ap₂ _++_ same-head (ap₂ (λ (p N : ℕ). lines p N (count s) (rootWords s)) same-p same-N ∙ ap₂ (lines (modulus u) (width u)) same-r words)
 
 never : {A : Type 0} (v : Verdict) (r : Refusal) → v ≡ Refuse r → v ≡ Pass → A
 never v r e q = absurd (let z : _≡_ {A = ℕ} 0 1 = cc in omega arith)
@@ -227,15 +252,62 @@ never v r e q = absurd (let z : _≡_ {A = ℕ} 0 1 = cc in omega arith)
 same-refusal : (v : Verdict) (r q : Refusal) → v ≡ Refuse r → v ≡ Refuse q → r ≡ q
 same-refusal v r q e f = cc
 
+-- what a sheet shows, computed
+abbrev rootsBy : Verdict → List ℕ → List ℕ
+rootsBy Pass s = rootsText s (rootWords s)
+rootsBy (Refuse r) s = refusedText (r .number) (r .detail)
+
+abbrev shownText : Profile → List ℕ → List ℕ
+shownText Factors s = listingText s
+shownText Roots s = rootsBy (multipleVerdict s) s
+
+pub roots-refused : (s : List ℕ) (r : Refusal) → multipleVerdict s ≡ Refuse r → RootsShown s (refusedText (r .number) (r .detail))
+unfolding multipleVerdict
+roots-refused s r e = record {
+  refused = λ q f. ap (λ (x : Refusal). refusedText (x .number) (x .detail)) (same-refusal _ r q e f);
+  listed = λ f h x. never _ r e f;
+}
+
+pub roots-shown : (s h : List ℕ) → Sound s → multipleVerdict s ≡ Pass → SeriesRoots s h → RootsShown s (rootsText s h)
+unfolding multipleVerdict
+roots-shown s h sound e is = record {
+  refused = λ q f. never _ q f e;
+  listed = λ f k x. let one = roots-one s sound (multiple-pass s sound e) in ap (rootsText s) (one .only h is ∙ sym (one .only k x));
+}
+
+-- a sound sheet shows exactly one text
+shows-one : (profile : Profile) (s : List ℕ) → Sound s → TheOne (Shows profile s) (shownText profile s)
+shows-one Factors s sound = record { is = refl; only = λ y e. e }
+shows-one Roots s sound = go (multipleVerdict s) refl
+  where
+    go : (v : Verdict) → multipleVerdict s ≡ v → TheOne (RootsShown s) (rootsBy v s)
+    go Pass e =
+        let one = roots-one s sound (multiple-pass s sound e) in
+        record { is = roots-shown s (rootWords s) sound e (one .is); only = λ y x. x .listed (unfold multipleVerdict in e) (rootWords s) (one .is) }
+    go (Refuse r) e = record { is = roots-refused s r e; only = λ y x. x .refused r (unfold multipleVerdict in e) }
+
+-- sheets that hold the same show the same
+shown-same : (profile : Profile) (g : Given) (k : ℕ) (s u : List ℕ) → Holds g k s → Holds g k u → shownText profile s ≡ shownText profile u
+shown-same Factors g k s u hs hu = listing-same g k s u hs hu
+shown-same Roots g k s u hs hu = go (multipleVerdict s) refl
+  where
+    go : (v : Verdict) → multipleVerdict s ≡ v → rootsBy (multipleVerdict s) s ≡ rootsBy (multipleVerdict u) u
+    go Pass e =
+        rw (sym (verdict-same g k s u hs hu), e) (roots-same g k s u hs hu (multiple-pass s (hs .sound) e))
+    go (Refuse r) e = rw (sym (verdict-same g k s u hs hu), e) refl
+
 -- the text under a verdict
-pub text-refused : (v : Verdict) (g : Given) (r : Refusal) → v ≡ Refuse r → TextOf v g (refusedText (r .number) (r .detail))
-text-refused v g r e = record {
+pub text-refused : (profile : Profile) (v : Verdict) (g : Given) (r : Refusal) → v ≡ Refuse r → TextOf profile v g (refusedText (r .number) (r .detail))
+text-refused profile v g r e = record {
   refused = λ q f. ap (λ (x : Refusal). refusedText (x .number) (x .detail)) (same-refusal v r q e f);
   listed = λ f s h. never v r e f;
 }
 
-pub text-listed : (v : Verdict) (g : Given) (s : List ℕ) → v ≡ Pass → Holds g (g .N) s → TextOf v g (listingText s)
-text-listed v g s e h = record { refused = λ q f. never v q f e; listed = λ f u k. listing-same g (g .N) s u h k }
+pub text-listed : (profile : Profile) (v : Verdict) (g : Given) (s text : List ℕ) → v ≡ Pass → Holds g (g .N) s → Shows profile s text → TextOf profile v g text
+text-listed profile v g s text e h x = record {
+  refused = λ q f. never v q f e;
+  listed = λ f u k. subst (Shows profile u) (sym (shows-one profile s (h .sound) .only text x ∙ shown-same profile g (g .N) s u h k)) (shows-one profile u (k .sound) .is);
+}
 
 -- a job's rows are all known to N
 job-reach : (b : List ℕ) → given-reach (rooted (jobGiven b)) ≡ rooted (jobGiven b) .N
@@ -245,36 +317,37 @@ job-reach b =
     z .2 ∙ whole-reach (jobModulus b) (jobDegree b) (jobWidth b) (jobGiven b .rows) (jobGiven b .roots) ∙ sym (z .1)
 
 -- under each verdict there is exactly one text
-pub one-text : (v : Verdict) (g : Given) → given-reach g ≡ g .N → (v ≡ Pass → GivenReady g) → One (TextOf v g)
-one-text v g whole ready = go v refl
+pub one-text : (profile : Profile) (v : Verdict) (g : Given) → given-reach g ≡ g .N → (v ≡ Pass → GivenReady g) → One (TextOf profile v g)
+one-text profile v g whole ready = go v refl
   where
-    go : (w : Verdict) → v ≡ w → One (TextOf v g)
+    go : (w : Verdict) → v ≡ w → One (TextOf profile v g)
     go Pass e =
         let one = sheet-exists g (ready e) (g .N) (ready e .width-low) (omega arith) in
-        (listingText (one .words), record { is = text-listed v g (one .words) e (one .holds); only = λ other x. x .listed e (one .words) (one .holds) })
-    go (Refuse r) e = (refusedText (r .number) (r .detail), record { is = text-refused v g r e; only = λ other x. x .refused r e })
+        let shows = shows-one profile (one .words) (one .holds .sound) in
+        (shownText profile (one .words), record { is = text-listed profile v g (one .words) _ e (one .holds) (shows .is); only = λ other x. shows .only other (x .listed e (one .words) (one .holds)) })
+    go (Refuse r) e = (refusedText (r .number) (r .detail), record { is = text-refused profile v g r e; only = λ other x. x .refused r e })
 
 -- so each job comes to exactly one text
-pub one-listing : (job : List ℕ) → One (IsListing job)
-one-listing job = one-text (listVerdict job) (rooted (jobGiven job)) (job-reach job) (λ e. rooted-ready (jobGiven job) (needed (rooted (jobGiven job))) (pass-open job e) .0)
+pub one-listing : (profile : Profile) (job : List ℕ) → One (IsListing profile job)
+one-listing profile job = one-text profile (listVerdict job) (rooted (jobGiven job)) (job-reach job) (λ e. rooted-ready (jobGiven job) (needed (rooted (jobGiven job))) (pass-open job e) .0)
 
 -- so the call has one outcome only
-pub listed-only : (job old : List ℕ) (a a′ : Outcome ℕ) (new new′ : List ℕ) → Listed job old a new → Listed job old a′ new′ → (a ≡ a′) × (new ≡ new′)
-listed-only job old a a′ new new′ x x′ =
-    let e : x .text ≡ x′ .text = one-same (IsListing job) (one-listing job) (x .text) (x′ .text) (x .is) (x′ .is) in (
+pub listed-only : (profile : Profile) (job old : List ℕ) (a a′ : Outcome ℕ) (new new′ : List ℕ) → Listed profile job old a new → Listed profile job old a′ new′ → (a ≡ a′) × (new ≡ new′)
+listed-only profile job old a a′ new new′ x x′ =
+    let e : x .text ≡ x′ .text = one-same (IsListing profile job) (one-listing profile job) (x .text) (x′ .text) (x .is) (x′ .is) in (
       x .answers ∙ ap (λ (t : List ℕ). result (roomVerdict t old) (length t)) e ∙ sym (x′ .answers),
       x .leaves ∙ ap (λ (t : List ℕ). written (roomVerdict t old) (over t old) old) e ∙ sym (x′ .leaves),
     )
 
 -- the first bytes of a file that is too long come to its text
-pub listing-cut : (job text : List ℕ) (n : ℕ) → longestJob < n → n ≤ length job → IsListing (take n job) text → IsListing job text
-listing-cut job text n h l x = go (judge (jobChecks job)) refl
+pub listing-cut : (profile : Profile) (job text : List ℕ) (n : ℕ) → longestJob < n → n ≤ length job → IsListing profile (take n job) text → IsListing profile job text
+listing-cut profile job text n h l x = go (judge (jobChecks job)) refl
   where
-    go : (v : Verdict) → judge (jobChecks job) ≡ v → IsListing job text
+    go : (v : Verdict) → judge (jobChecks job) ≡ v → IsListing profile job text
     go Pass e = too-long-not job (omega arith) e
     go (Refuse r) e =
         let is : text ≡ refusedText (r .number) (r .detail) = x .refused r (list-refused (take n job) r (cut-same job n h l ∙ e)) in
-        subst (λ (t : List ℕ). IsListing job t) (sym is) (text-refused (listVerdict job) (rooted (jobGiven job)) r (list-refused job r e))
+        subst (λ (t : List ℕ). IsListing profile job t) (sym is) (text-refused profile (listVerdict job) (rooted (jobGiven job)) r (list-refused job r e))
 
 -- handing a text over: no room, and room
 pub no-room : (text old : List ℕ) → length old < length text → roomVerdict text old ≡ Refuse (refusal 10 (length text))
@@ -308,18 +381,18 @@ extend-passes g s w h low high =
     simp (sound-test s .1 (h .sound), le-ltb w 1 low, le-ltb (reach s) w (omega (arith, holds-reach g 1 s h)), le-ltb w (terms s) (omega (arith, h .same-terms)))
 
 -- after opening: the refusal, or else extend to N
-module _ (v : Verdict) (g : Given) (whole : given-reach g ≡ g .N) (ready : v ≡ Pass → GivenReady g) (old mid : List ℕ) (a : Outcome ℕ) (o : OpenedBy v g old a mid) where
-  refused-text : (n d : ℕ) → a ≡ refused n d → TextOf v g (refusedText n d)
+module _ (profile : Profile) (v : Verdict) (g : Given) (whole : given-reach g ≡ g .N) (ready : v ≡ Pass → GivenReady g) (old mid : List ℕ) (a : Outcome ℕ) (o : OpenedBy v g old a mid) where
+  refused-text : (n d : ℕ) → a ≡ refused n d → TextOf profile v g (refusedText n d)
   refused-text n d is = go v refl (sym is ∙ o .answers)
     where
-      go : (w : Verdict) → v ≡ w → _≡_ {A = Outcome ℕ} (refused n d) (result w (needed g)) → TextOf v g (refusedText n d)
+      go : (w : Verdict) → v ≡ w → _≡_ {A = Outcome ℕ} (refused n d) (result w (needed g)) → TextOf profile v g (refusedText n d)
       go Pass q e = unlike (needed g) n d e
       go (Refuse r) q e =
           let m : r .number ≡ n = cc in
           let l : r .detail ≡ d = cc in
-          subst (λ (x : List ℕ). TextOf v g x) (ap₂ refusedText m l) (text-refused v g r q)
+          subst (λ (x : List ℕ). TextOf profile v g x) (ap₂ refusedText m l) (text-refused profile v g r q)
 
-  pub wrote-refused : (n d : ℕ) {at : ℕ} {out new : List ℕ} → a ≡ refused n d → Puts refusalRoom (refusedText n d) 0 out at new → Wrote v g out at new
+  pub wrote-refused : (n d : ℕ) {at : ℕ} {out new : List ℕ} → a ≡ refused n d → Puts refusalRoom (refusedText n d) 0 out at new → Wrote profile v g out at new
   wrote-refused n d is f =
       record { text = refusedText n d; is = refused-text n d is; puts = puts-as textRoom (refusedText n d) f refl (omega arith) }
 
@@ -333,15 +406,14 @@ module _ (v : Verdict) (g : Given) (whole : given-reach g ≡ g .N) (ready : v �
       let y = extended-holds g mid new b w h x (extend-passes g mid w h (omega (arith, ready q .width-low)) (omega arith)) in
       subst (λ (n : ℕ). Holds g n new) e y
 
-  pub given-listable : (T w : ℕ) (b : Outcome ℕ) (new : List ℕ) → a ≡ accepted T → w ≡ g .N → g .D ≤ mostDegree → g .N ≤ mostWidth → Extended mid w b new → Listable new
-  given-listable T w b new is e d n x =
-      let h = holds-all T w b new is e x in
-      listable new (h .sound) (omega (arith, h .same-degree)) (omega (arith, h .same-width))
+  pub given-shows : (T w : ℕ) (b : Outcome ℕ) (new : List ℕ) → a ≡ accepted T → w ≡ g .N → g .D ≤ mostDegree → g .N ≤ mostWidth → Extended mid w b new
+      → Sound new × (degree new ≤ mostDegree) × (width new ≤ mostWidth)
+  given-shows T w b new is e d n x = let h = holds-all T w b new is e x in (h .sound, omega (arith, h .same-degree), omega (arith, h .same-width))
 
   pub wrote-listed : (T w : ℕ) (b : Outcome ℕ) (new : List ℕ) {at : ℕ} {out text : List ℕ} → a ≡ accepted T → w ≡ g .N → Extended mid w b new
-      → Puts textRoom (listingText new) 0 out at text → Wrote v g out at text
+      → WroteSheet profile new out at text → Wrote profile v g out at text
   wrote-listed T w b new is e x f =
-      record { text = listingText new; is = text-listed v g new (passed T is) (holds-all T w b new is e x); puts = f }
+      record { text = f .text; is = text-listed profile v g new (f .text) (passed T is) (holds-all T w b new is e x) (f .is); puts = f .puts }
 
 -- the first m words of an array, made by a function that was lent them
 module _ (m : ℕ) (f : ℕ → ℕ) (zeros new : List ℕ) (fits : m ≤ length zeros) (is : new ≡ tabulate (length (take m zeros)) f) where
@@ -371,6 +443,37 @@ load-fits b f from m end zeros is h e few long =
     let n = length-take-le m zeros h in
     (is, omega arith, omega (arith, place-mono b (from + length (take m zeros)) end (omega arith)))
 
+-- a profile by another name
+pub wrote-as : {x y : Profile} {s old new : List ℕ} {at : ℕ} → x ≡ y → WroteSheet y s old at new → WroteSheet x s old at new
+wrote-as {x} {y} {s} {old} {new} {at} e f = subst (λ (z : Profile). WroteSheet z s old at new) (sym e) f
+
+pub wrote-factors : {s old new : List ℕ} {at : ℕ} → Puts textRoom (listingText s) 0 old at new → WroteSheet Factors s old at new
+wrote-factors {s} f = record { text = listingText s; is = refl; puts = f }
+
+-- the series of a sheet's roots, where they were written to the first n words of an array
+pub series-few : (s : List ℕ) → Sound s → degree s ≤ mostDegree → width s ≤ mostWidth → count s * width s ≤ mostDegree * mostWidth
+series-few s sound d n = mul-le-mul {n₂ = mostDegree} {m₂ = mostWidth} (omega (arith, sumTo-count (count s) (power s) (sound .factors .powers), sound .factors .degree)) n
+
+module _ (s h zeros : List ℕ) (n : ℕ) (sound : Sound s) (e : multipleVerdict s ≡ Pass) (is : SeriesRoots s h) (size : n ≡ count s * width s) where
+  pub series-fits : n ≤ length (h ++ drop n zeros)
+  series-fits = omega (arith, length-append h (drop n zeros), is .long)
+
+  pub series-first : take n (h ++ drop n zeros) ≡ h
+  series-first = take-at h (drop n zeros) n (is .long ∙ sym size)
+
+  pub series-ready : (x : List ℕ) → x ≡ take n (h ++ drop n zeros) → degree s ≤ mostDegree → width s ≤ mostWidth
+      → Listable s × Entries (modulus s) x 0 (width s) (count s) × (count s * width s ≤ length x)
+  series-ready x ex d w =
+      let simple = multiple-pass s sound e in
+      let same : x ≡ rootWords s = ex ∙ series-first ∙ roots-one s sound simple .only h is in (
+        listable s sound d w,
+        record { small = sound .small; reduced = subst (λ y. (i : ℕ) → i < count s → (t : ℕ) → t < width s → rowsAt y 0 (width s) i t < modulus s) (sym same) (roots-reduced s sound simple) },
+        omega (arith, ap length (ex ∙ series-first), is .long),
+      )
+
+  pub wrote-series : (x : List ℕ) → x ≡ take n (h ++ drop n zeros) → {at : ℕ} {out new : List ℕ} → Puts textRoom (rootsText s x) 0 out at new → WroteSheet Roots s out at new
+  wrote-series x ex f = record { text = rootsText s x; is = roots-shown s x sound e (subst (SeriesRoots s) (sym (ex ∙ series-first)) is); puts = f }
+
 -- what a job gives, word by word
 module _ (b : List ℕ) (p D N : ℕ) (rows roots : List ℕ) (ep : p ≡ jobModulus b) (ed : D ≡ jobDegree b) (en : N ≡ jobWidth b)
     (erows : rows ≡ fields b (headFields + jobCount b) ((jobDegree b + 1) * jobWidth b)) (eroots : roots ≡ fields b headFields (jobCount b)) where
@@ -382,17 +485,17 @@ module _ (b : List ℕ) (p D N : ℕ) (rows roots : List ℕ) (ep : p ≡ jobMod
       ∙ ap (λ (x : List ℕ). wholeOf (jobModulus b) (jobDegree b) (jobWidth b) x roots) erows ∙ ap (λ (x : List ℕ). wholeOf (jobModulus b) (jobDegree b) (jobWidth b) A x) eroots
 
   -- after a job's own checks, the text is that of the verdict on what it gives
-  pub wrote-job : {out new : List ℕ} {at : ℕ} → judge (jobChecks b) ≡ Pass → WroteGiven (wholeOf p D N rows roots) out at new → Wrote (listVerdict b) (rooted (jobGiven b)) out at new
-  wrote-job {out} {new} {at} e w =
-      let s = subst (λ (x : Given). WroteGiven x out at new) given-same w in
-      subst (λ (v : Verdict). Wrote v (rooted (jobGiven b)) out at new) (sym (list-verdict b sheetRoom e refl)) s
+  pub wrote-job : {out new : List ℕ} {at : ℕ} → (profile : Profile) → judge (jobChecks b) ≡ Pass → WroteGiven profile (wholeOf p D N rows roots) out at new → Wrote profile (listVerdict b) (rooted (jobGiven b)) out at new
+  wrote-job {out} {new} {at} profile e w =
+      let s = subst (λ (x : Given). WroteGiven profile x out at new) given-same w in
+      subst (λ (v : Verdict). Wrote profile v (rooted (jobGiven b)) out at new) (sym (list-verdict b sheetRoom e refl)) s
 
 -- the text of a job that its own checks refuse
-pub wrote-early : (b : List ℕ) (r : Refusal) {out new : List ℕ} {at : ℕ} → judge (jobChecks b) ≡ Refuse r → Puts refusalRoom (refusedText (r .number) (r .detail)) 0 out at new
-    → Wrote (listVerdict b) (rooted (jobGiven b)) out at new
-wrote-early b r e f = record {
+pub wrote-early : (profile : Profile) (b : List ℕ) (r : Refusal) {out new : List ℕ} {at : ℕ} → judge (jobChecks b) ≡ Refuse r → Puts refusalRoom (refusedText (r .number) (r .detail)) 0 out at new
+    → Wrote profile (listVerdict b) (rooted (jobGiven b)) out at new
+wrote-early profile b r e f = record {
   text = refusedText (r .number) (r .detail);
-  is = text-refused (listVerdict b) (rooted (jobGiven b)) r (list-refused b r e);
+  is = text-refused profile (listVerdict b) (rooted (jobGiven b)) r (list-refused b r e);
   puts = puts-as textRoom (refusedText (r .number) (r .detail)) f refl (omega arith);
 }
 
@@ -408,12 +511,12 @@ module _ {long : ℕ} {text zeros bytes : List ℕ} (f : Puts textRoom text 0 ze
   put-fits = (omega (arith, f .fits, f .long, put-long), omega (arith, ap length put-first, f .within))
 
 -- a text written is handed over as far as it goes
-module _ (job zeros bytes : List ℕ) (long : ℕ) (w : Wrote (listVerdict job) (rooted (jobGiven job)) zeros long bytes) where
+module _ (profile : Profile) (job zeros bytes : List ℕ) (long : ℕ) (w : Wrote profile (listVerdict job) (rooted (jobGiven job)) zeros long bytes) where
   pub listed-all : (text old new : List ℕ) (a : Outcome ℕ) → text ≡ take long bytes → a ≡ result (roomVerdict text old) (length text)
-      → new ≡ written (roomVerdict text old) (over text old) old → Listed job old a new
+      → new ≡ written (roomVerdict text old) (over text old) old → Listed profile job old a new
   listed-all text old new a is e f = record {
     text = text;
-    is = subst (λ (x : List ℕ). IsListing job x) (sym (is ∙ put-first (w .puts))) (w .is);
+    is = subst (λ (x : List ℕ). IsListing profile job x) (sym (is ∙ put-first (w .puts))) (w .is);
     short = omega (arith, ap length is, put-fits (w .puts) .1);
     answers = e;
     leaves = f;
@@ -436,11 +539,12 @@ module _ (text old : List ℕ) (a : Outcome ℕ) (h : a ≡ result (roomVerdict 
   handed-never n d is room = unlike (length text) n d (sym is ∙ h ∙ ap (λ (v : Verdict). result v (length text)) (has-room text old room))
 
 -- so an accepted listing, and the room of every text is always room enough
-pub listed-fits : (job old new : List ℕ) (a : Outcome ℕ) (n : ℕ) → a ≡ accepted n → Listed job old a new → n ≤ length old
-listed-fits job old new a n is h = handed-fits (h .text) old a (h .answers) n is
+module _ (profile : Profile) (job old new : List ℕ) (a : Outcome ℕ) (h : Listed profile job old a new) where
+  pub listed-fits : (n : ℕ) → a ≡ accepted n → n ≤ length old
+  listed-fits n is = handed-fits (h .text) old a (h .answers) n is
 
-pub listed-never : {A : Type 0} (job old new : List ℕ) (a : Outcome ℕ) (n d : ℕ) → a ≡ refused n d → textRoom ≤ length old → Listed job old a new → A
-listed-never job old new a n d is room h = handed-never (h .text) old a (h .answers) n d is (omega (arith, h .short))
+  pub listed-never : {A : Type 0} (n d : ℕ) → a ≡ refused n d → textRoom ≤ length old → A
+  listed-never n d is room = handed-never (h .text) old a (h .answers) n d is (omega (arith, h .short))
 
-pub listed-as : (job old new : List ℕ) (a : Outcome ℕ) (n : ℕ) → a ≡ accepted n → Listed job old a new → Listed job old (accepted n) new
-listed-as job old new a n is h = subst (λ (x : Outcome ℕ). Listed job old x new) is h
+  pub listed-as : (n : ℕ) → a ≡ accepted n → Listed profile job old (accepted n) new
+  listed-as n is = subst (λ (x : Outcome ℕ). Listed profile job old x new) is h

@@ -1,7 +1,8 @@
 -- Refusals by number: how every operation judges what it is given.
 --   refusal n d         the refusal of number n with detail d
 --   Check, check n b d  a row of the table of refusals: number n is given when b holds, with detail d
---   judge checks        the first check of the list that applies: the checks stand in number order, but that 20 comes before 6, 21 after it, and 24 after 3
+--   judge checks        the first check of the list that applies: the checks stand in number order, but that 20 comes before 6, 21 after it, 24 after 3,
+--                       17 to 19 after 4, and 22 between 13 and 10
 --   Outcome A           a call is accepted with an A, or refused with number and detail
 --   result v x          the outcome that follows a verdict: a pass is accepted with x
 --   outcome r           number and values for each case of an answer

@@ -32,9 +32,9 @@ use Rattle.numbers.proofs.WordsLaws.{length-tabulate, word-tabulate}
 use Rattle.numbers.proofs.RefusalsLaws.{accepted-pass, take-check, skip-check, none-judged}
 use Rattle.powers.specs.internal.Powers.{GivesPowers, Unsplit}
 use Rattle.powers.proofs.FindingLaws.{gives-same}
-use Rattle.roots.specs.Roots.{allRoots}
-use Rattle.roots.specs.internal.Finding.{FoundRoots}
-use Rattle.roots.proofs.RootsLaws.{roots-rise, roots-below, roots-few, roots-complete, unsplit-all}
+use Rattle.rootfinding.specs.Roots.{allRoots}
+use Rattle.rootfinding.specs.internal.Finding.{FoundRoots}
+use Rattle.rootfinding.proofs.RootsLaws.{roots-rise, roots-below, roots-few, roots-complete, unsplit-all}
 use Rattle.sheet.specs.Sheet.{Given, givenOf}
 use Rattle.open.specs.Open.{powersOf, needed, openVerdict, polynomialChecks, topChecks, listChecks, splitChecks, OpenedBy, Opened}
 use Rattle.open.specs.Find.{firstColumn, withRoots, findVerdict, Found, IsProduct}

@@ -18,7 +18,7 @@ use Rattle.numbers.proofs.WordsLaws.{length-tabulate, word-tabulate, tabulate-e
 use Rattle.rows.proofs.RowsLaws.{row-fits}
 use Rattle.layout.specs.Layout.{rowsAt}
 use Rattle.powers.specs.internal.Powers.{FoundPowers}
-use Rattle.roots.specs.internal.Finding.{Monic, FoundRoots}
+use Rattle.rootfinding.specs.internal.Finding.{Monic, FoundRoots}
 use Rattle.sheet.specs.Sheet.{Given, given-polynomial}
 use Rattle.open.specs.Find.{firstColumn}
 use Rattle.open.specs.internal.Opening.{PowersAnswer}

@@ -17,7 +17,7 @@ use Rattle.numbers.specs.Refusals.{Check, judge, Outcome}
 use Rattle.numbers.specs.declared.refusal.Verdict.{Verdict}
 use Rattle.hensel.specs.Factors.{split}
 use Rattle.sheet.specs.Sheet.{Given, givenOf, given-polynomial}
-use Rattle.roots.specs.Roots.{allRoots}
+use Rattle.rootfinding.specs.Roots.{allRoots}
 use Rattle.open.specs.Open.{polynomialChecks, topChecks, splitChecks, OpenedBy}
 
 abbrev pub firstColumn : Given → List ℕ

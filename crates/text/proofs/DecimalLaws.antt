@@ -1,4 +1,4 @@
--- Laws of decimals: reading digits back gives the number, and a word has at most ten.
+-- Laws of decimals: reading digits back gives the number, and a number below 10ᵏ has at most k of them, so that a word has at most ten.
 -- Assumes nothing.
 use Prim.Native.Nat.{ℕ, zero, suc, _+_, _-_, _*_, _/_, _%_, _≤_, _<_}
 use native.Mathlib.Omega.{arith}
@@ -51,9 +51,14 @@ short-within (suc room) (suc k) n h = go (ltb n 10) (short-within room k (n / 10
     go true l = omega arith
     go false l = simp length-append (omega arith)
 
+-- there are at most 1 + k digits below 10¹⁺ᵏ
+pub digits-few : (k n : ℕ) → n < tens (suc k) → length (digits n) ≤ suc k
+unfolding digits
+digits-few k n h = short-within n k n h
+
 pub digits-short : (n : ℕ) → n < 4294967296 → length (digits n) ≤ 10
-unfolding digits tens
-digits-short n h = short-within n 9 n (omega arith)
+unfolding tens
+digits-short n h = digits-few 9 n (omega arith)
 
 within-some : (room n : ℕ) → 1 ≤ length (digitsWithin room n)
 unfolding digitsWithin

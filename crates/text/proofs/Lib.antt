@@ -1,3 +1,4 @@
 pub mod DecimalLaws
 pub mod TextLaws
+pub mod SignedTextLaws
 pub mod SheetTextLaws

@@ -1,6 +1,6 @@
 -- Laws of putting text into a buffer: nothing, one byte more, one text after another; and of texts that a loop puts piece by piece.
 -- Assumes nothing.
-use Prim.Native.Nat.{ℕ, suc, _+_, _*_, _≤_, _<_}
+use Prim.Native.Nat.{ℕ, _+_, _*_, _≤_, _<_}
 use native.Mathlib.Nat.{add-zero}
 use native.Mathlib.Numerals.{add-one}
 use native.Mathlib.Omega.{arith}
@@ -9,10 +9,9 @@ use mathlib.Core.List.{List, [], _∷_, _++_, append-assoc, append-nil}
 use lib.ListN.{length, take, drop, set, length-append, length-set, take-append-drop}
 use lib.Seq.{set-split, take-at, drop-at, drop-drop, take-suc, take-all, length-take-le}
 use Rattle.numbers.specs.Words.{word}
-use Rattle.numbers.proofs.WordsLaws.{from, from-is, length-from}
-use Rattle.text.specs.Decimal.{digits}
+use Rattle.text.specs.declared.Profile.{Profile}
 use Rattle.text.specs.internal.Putting.{Puts}
-use Rattle.text.specs.Text.{bytes, moreNumbers, numbersText, joinTo}
+use Rattle.text.specs.Text.{bytes, numberText, moreNumbers, joinTo}
 
 -- nothing yet
 pub puts-none : (at : ℕ) (old : List ℕ) → at ≤ length old → Puts 0 [] at old at old
@@ -54,11 +53,14 @@ puts-then {m} {n} {at} {a} {b} {x} {y} {old} {mid} {new} f g =
       within = simp length-append (omega (arith, f .within, g .within));
     }
 
--- the same text, and no less room
-pub puts-as : {m at a : ℕ} {x old new : List ℕ} (n : ℕ) (y : List ℕ) → Puts m x at old a new → x ≡ y → m ≤ n → Puts n y at old a new
-puts-as {m} {at} {a} {x} {old} {new} n y f e h =
+-- the same text, and room enough for it
+pub puts-within : {m at a : ℕ} {x old new : List ℕ} (n : ℕ) (y : List ℕ) → Puts m x at old a new → x ≡ y → length y ≤ n → Puts n y at old a new
+puts-within {m} {at} {a} {x} {old} {new} n y f e h =
     let g : Puts m y at old a new = subst (λ (s : List ℕ). Puts m s at old a new) e f in
-    record { answers = g .answers; leaves = g .leaves; long = g .long; fits = g .fits; within = omega (arith, g .within) }
+    record { answers = g .answers; leaves = g .leaves; long = g .long; fits = g .fits; within = h }
+
+pub puts-as : {m at a : ℕ} {x old new : List ℕ} (n : ℕ) (y : List ℕ) → Puts m x at old a new → x ≡ y → m ≤ n → Puts n y at old a new
+puts-as n y f e h = puts-within n y f e (omega (arith, f .within, ap length e))
 
 pub puts-at : {n at a : ℕ} {x old new : List ℕ} (b : ℕ) → Puts n x at old a new → a ≡ b → Puts n x at old b new
 puts-at {n} {at} {a} {x} {old} {new} b f e = subst (λ (k : ℕ). Puts n x at old k new) e f
@@ -77,37 +79,30 @@ pub copy-all : (bytes : List ℕ) (at : ℕ) (old out : List ℕ) (i : ℕ) → 
     → Puts (length bytes) bytes at old (at + i) out
 copy-all bytes at old out i f h l = puts-as (length bytes) bytes f (take-all i bytes h) l
 
--- the numbers up to the next one
-more-next : (s : List ℕ) (y : ℕ) → moreNumbers (s ++ (y ∷ [])) ≡ moreNumbers s ++ (bytes " " ++ digits y)
-unfolding moreNumbers
-more-next [] y = ap (λ (t : List ℕ). bytes " " ++ t) (append-nil (digits y))
-more-next (x ∷ s) y = ap (λ (t : List ℕ). bytes " " ++ t) (ap (λ t. digits x ++ t) (more-next s y) ∙ sym (append-assoc (digits x) (moreNumbers s) _))
+-- a loop that puts entries: at its start, one entry further, and at its end
+module _ (profile : Profile) (p : ℕ) where
+  -- the entries up to the next one
+  more-next : (s : List ℕ) (y : ℕ) → moreNumbers profile p (s ++ (y ∷ [])) ≡ moreNumbers profile p s ++ (bytes " " ++ numberText profile p y)
+  unfolding moreNumbers
+  more-next [] y = ap (λ (t : List ℕ). bytes " " ++ t) (append-nil (numberText profile p y))
+  more-next (x ∷ s) y =
+      ap (λ (t : List ℕ). bytes " " ++ t)
+      (ap (λ t. numberText profile p x ++ t) (more-next s y) ∙ sym (append-assoc (numberText profile p x) (moreNumbers profile p s) _))
 
--- a loop that puts numbers: at its start, one number further, and at its end
-pub more-start : (s : List ℕ) (at : ℕ) (old : List ℕ) → at ≤ length old → Puts (11 * 0) (moreNumbers (take 0 s)) at old at old
-unfolding moreNumbers
-more-start s at old h = puts-none at old h
+  pub more-start : (s : List ℕ) (at : ℕ) (old : List ℕ) → at ≤ length old → Puts (11 * 0) (moreNumbers profile p (take 0 s)) at old at old
+  unfolding moreNumbers
+  more-start s at old h = puts-none at old h
 
-pub more-on : (s : List ℕ) (i at : ℕ) {place next : ℕ} {old out new : List ℕ} → i < length s
-    → Puts (11 * i) (moreNumbers (take i s)) at old place out → Puts 11 (bytes " " ++ digits (word s i)) place out next new
-    → Puts (11 * (i + 1)) (moreNumbers (take (i + 1) s)) at old next new
-more-on s i at l f g =
-    puts-as (11 * (i + 1)) (moreNumbers (take (i + 1) s)) (puts-then f g)
-    (sym (rw add-one (ap moreNumbers (take-suc s i 0 l) ∙ more-next (take i s) (word s i)))) (omega arith)
+  pub more-on : (s : List ℕ) (i at : ℕ) {place mid next : ℕ} {old out half new : List ℕ} → i < length s → Puts (11 * i) (moreNumbers profile p (take i s)) at old place out
+      → Puts 1 (bytes " ") place out mid half → Puts 10 (numberText profile p (word s i)) mid half next new
+      → Puts (11 * (i + 1)) (moreNumbers profile p (take (i + 1) s)) at old next new
+  more-on s i at l f b g =
+      puts-as (11 * (i + 1)) (moreNumbers profile p (take (i + 1) s)) (puts-then f (puts-then b g))
+      (sym (rw add-one (ap (moreNumbers profile p) (take-suc s i 0 l) ∙ more-next (take i s) (word s i)))) (omega arith)
 
-pub more-end : (s : List ℕ) (i at : ℕ) {place : ℕ} {old out : List ℕ} → Puts (11 * i) (moreNumbers (take i s)) at old place out → length s ≤ i → i ≤ length s
-    → Puts (11 * length s) (moreNumbers s) at old place out
-more-end s i at f h l = puts-as (11 * length s) (moreNumbers s) f (ap moreNumbers (take-all i s h)) (omega arith)
-
--- the first number, and the others
-pub numbers-put : (s : List ℕ) (at : ℕ) {mid next : ℕ} {old half new : List ℕ} → 1 ≤ length s
-    → Puts 10 (digits (word s 0)) at old mid half → Puts (11 * length (from s 1)) (moreNumbers (from s 1)) mid half next new
-    → Puts (11 * length s) (numbersText s) at old next new
-unfolding numbersText
-numbers-put [] at h d f = absurd (let z : ⊥ = omega arith in z)
-numbers-put (x ∷ s) at h d f =
-    puts-as (11 * suc (length s)) (digits x ++ moreNumbers s) (puts-then d f) (ap (λ (t : List ℕ). digits x ++ moreNumbers t) (from-is (x ∷ s) 1))
-    (omega (arith, length-from (x ∷ s) 1))
+  pub more-end : (s : List ℕ) (i at : ℕ) {place : ℕ} {old out : List ℕ} → Puts (11 * i) (moreNumbers profile p (take i s)) at old place out → length s ≤ i → i ≤ length s
+      → Puts (11 * length s) (moreNumbers profile p s) at old place out
+  more-end s i at f h l = puts-as (11 * length s) (moreNumbers profile p s) f (ap (moreNumbers profile p) (take-all i s h)) (omega arith)
 
 pub join-next : (n : ℕ) (f : ℕ → List ℕ) → joinTo (n + 1) f ≡ joinTo n f ++ f n
 unfolding joinTo

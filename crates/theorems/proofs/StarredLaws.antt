@@ -22,7 +22,7 @@ use Rattle.pair.specs.Paired.{held}
 use Rattle.hensel.specs.Factors.{product}
 use Rattle.sheet.specs.Test.{primeTest, factorsTest, headerTest, bodyTest, soundTest}
 use Rattle.open.specs.Open.{choices, find, splitsTest, powersOf, needed, openVerdict}
-use Rattle.roots.specs.Roots.{value}
+use Rattle.rootfinding.specs.Roots.{value}
 use Rattle.open.specs.Find.{findVerdict}
 use Rattle.extend.specs.Extend.{extendVerdict}
 use Rattle.correct.specs.Correct.{isEntry, correctVerdict}
@@ -30,7 +30,8 @@ use Rattle.calls.specs.Calls.{countAnswer, countAnswers, countEnd}
 use Rattle.calls.specs.Replay.{callFits, callsTo, replayVerdict}
 use Rattle.counts.specs.Counts.{lists, count, subsets, counted}
 use Rattle.text.specs.Decimal.{digits, digitsWithin}
-use Rattle.text.specs.Text.{bytes, listingText, headLine, rootLine, rowLine, rowLines, factorText, joinTo, numbersText, moreNumbers}
+use Rattle.text.specs.Text.{bytes, listingText, rootsText, headLine, rootLine, rowName, rowLine, rowLines, factorText, joinTo, signedText, numberText, moreNumbers}
+use Rattle.simple.specs.Simple.{seriesPower, valueAt, firstMultiple, simpleVerdict}
 use Rattle.job.specs.Job.{number, isWide, fieldsFrom, fieldSize, field}
 use Rattle.listing.specs.Listing.{jobGiven, listVerdict}
 use Rattle.formula.specs.Formula.{reads, unreadable, sumDepth}
@@ -91,5 +92,5 @@ unfolding scan step kindOf finish
 unread-none = unread _ refl
 
 pub starred : Starred
-unfolding table topRow powerOf sumValue sumHigh powersHigh sumDepth judge leastDivisor inverseOf firstWhere firstNonzero firstLarge allTo all sumTo rowsOf mul monic orderOf rowsBelow productTest pairTest held linePower product primeTest factorsTest headerTest bodyTest soundTest each choices find splitsTest powersOf needed openVerdict extendVerdict number isWide fieldsFrom fieldSize field jobGiven listVerdict listingText headLine rootLine rowLine rowLines factorText joinTo tabulate least knownTo rowsKnown sums productColumn series.product quotientColumn quotient quotientWords digits digitsWithin numbersText moreNumbers value allWhere findVerdict isEntry correctVerdict callFits callsTo replayVerdict countAnswer countAnswers countEnd lists count subsets counted
-starred = (refl, refl, refl, refl, refl, refl, refl, refl, refl, refl, refl, refl, refl, refl, refl, refl, refl, refl, refl, refl, refl, refl, refl, refl, refl, refl, refl, largest-prime, largest-composite, out-of-range, refl, refl, refl, refl, refl, refl, refl, refl, refl, refl, refl, refl, refl, refl, refl, refl, refl, refl, refl, refl, refl, refl, refl, refl, refl, refl, refl, refl, refl, refl, refl, refl, refl, refl, refl, refl, refl, refl, refl, refl, refl, refl, refl, refl, refl, refl, refl, refl, refl, refl, refl, refl, refl, refl, refl, refl, refl, refl, reads-typed, refl, refl, refl, refl, reads-minus, refl, reads-zero, refl, unread-blank, unread-sign, unread-chain, unread-power, unread-digits, unread-none, refl, refl)
+unfolding table topRow powerOf sumValue sumHigh powersHigh sumDepth judge leastDivisor inverseOf firstWhere firstNonzero firstLarge allTo all sumTo rowsOf mul monic orderOf rowsBelow productTest pairTest held linePower product primeTest factorsTest headerTest bodyTest soundTest each choices find splitsTest powersOf needed openVerdict extendVerdict number isWide fieldsFrom fieldSize field jobGiven listVerdict listingText headLine rootLine rowLine rowLines factorText joinTo tabulate least knownTo rowsKnown sums productColumn series.product quotientColumn quotient quotientWords digits digitsWithin rowName rootsText signedText numberText moreNumbers seriesPower valueAt firstMultiple simpleVerdict value allWhere findVerdict isEntry correctVerdict callFits callsTo replayVerdict countAnswer countAnswers countEnd lists count subsets counted
+starred = (refl, refl, refl, refl, refl, refl, refl, refl, refl, refl, refl, refl, refl, refl, refl, refl, refl, refl, refl, refl, refl, refl, refl, refl, refl, refl, refl, largest-prime, largest-composite, out-of-range, refl, refl, refl, refl, refl, refl, refl, refl, refl, refl, refl, refl, refl, refl, refl, refl, refl, refl, refl, refl, refl, refl, refl, refl, refl, refl, refl, refl, refl, refl, refl, refl, refl, refl, refl, refl, refl, refl, refl, refl, refl, refl, refl, refl, refl, refl, refl, refl, refl, refl, refl, refl, refl, refl, refl, refl, refl, refl, reads-typed, refl, refl, refl, refl, reads-minus, refl, reads-zero, refl, unread-blank, unread-sign, unread-chain, unread-power, unread-digits, unread-none, refl, refl, refl, refl, refl, refl, refl, refl, refl, refl, refl, refl, refl, refl, refl, refl)

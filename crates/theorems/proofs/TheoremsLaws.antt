@@ -25,9 +25,13 @@ use Rattle.rows.specs.Rows.{unit}
 use Rattle.rows.proofs.ShiftLaws.{row-shift-back, row-shift-product}
 use Rattle.pair.proofs.PairWordsLaws.{pair-test}
 use Rattle.pair.proofs.OneLaws.{paired-one, paired-afresh, paired-keeps, paired-goes}
-use Rattle.roots.specs.Roots.{value, isRoot, allRoots}
-use Rattle.roots.proofs.RootsLaws.{all-rising}
+use Rattle.rootfinding.specs.Roots.{value, isRoot, allRoots}
+use Rattle.rootfinding.proofs.RootsLaws.{all-rising}
 use Rattle.sheet.proofs.SoundTestLaws.{sound-test}
+use Rattle.simple.specs.internal.Factors.{multipleVerdict}
+use Rattle.simple.proofs.RootLaws.{root-series, root-factor}
+use Rattle.simple.proofs.SimpleLaws.{multiple-pass, multiple-least, simple-one}
+use Rattle.signed.proofs.SignedLaws.{signed-one}
 use Rattle.open.specs.Open.{needed}
 use Rattle.open.proofs.OpeningLaws.{open-ready, sheet-exists}
 use Rattle.open.proofs.OpenTotalLaws.{opened-one}
@@ -47,7 +51,7 @@ use Rattle.read.proofs.OutcomeLaws.{read-one}
 use Rattle.typed.proofs.OrderLaws.{one-order}
 use Rattle.typed.proofs.KeyLaws.{one-key, keyed-only, key-cut}
 use Rattle.listing.proofs.ListingLaws.{one-listing, listed-only, listing-cut}
-use Rattle.theorems.specs.Theorems.{PairTheorems, SheetTheorems, FindTheorems, CountTheorems, TypedTheorems, CallTheorems, KnownTheorems, RowTheorems, Theorems}
+use Rattle.theorems.specs.Theorems.{PairTheorems, SheetTheorems, FindTheorems, RootTheorems, CountTheorems, TypedTheorems, CallTheorems, KnownTheorems, RowTheorems, Theorems}
 
 pair-theorems : PairTheorems
 pair-theorems = record {
@@ -84,6 +88,16 @@ find-theorems = record {
       );
 }
 
+root-theorems : RootTheorems
+unfolding multipleVerdict
+root-theorems = record {
+  roots-multiple = multiple-least;
+  root-one = λ s sound e. root-series s sound (multiple-pass s sound e);
+  root-factor = λ s sound e. root-factor s sound (multiple-pass s sound e);
+  roots-one = simple-one;
+  signed-one = signed-one;
+}
+
 count-theorems : CountTheorems
 count-theorems = record { counts-formula = counts-formula; counts-total = counts-total; counts-find = counts-find }
 
@@ -100,7 +114,7 @@ call-theorems = record {
   listing-one = one-listing;
   listed-only = listed-only;
   narrow-job = narrow-reads;
-  listing-cut = λ job text h x. listing-cut job text jobRoom (omega arith) h x;
+  listing-cut = λ profile job text h x. listing-cut profile job text jobRoom (omega arith) h x;
 }
 
 known-theorems : KnownTheorems
@@ -155,4 +169,4 @@ row-theorems = record {
 }
 
 pub theorems : Theorems
-theorems = (pair-theorems, sheet-theorems, find-theorems, count-theorems, typed-theorems, call-theorems, known-theorems, row-theorems)
+theorems = (pair-theorems, sheet-theorems, find-theorems, root-theorems, count-theorems, typed-theorems, call-theorems, known-theorems, row-theorems)

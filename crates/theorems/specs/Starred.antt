@@ -1,4 +1,4 @@
--- The starred examples of document 01 with the moduli and the wide file of F-2, the quotients of F-5, the lengths of F-9, the roots of F-3, the correction of F-6 and the typed texts of F-1, as one list: closed terms of the definitions that
+-- The starred examples of document 01 with the moduli and the wide file of F-2, the quotients of F-5, the lengths of F-9, the roots of F-3, the correction of F-6, the typed texts of F-1 and the series of F-10, as one list: closed terms of the definitions that
 -- the contracts cite. `starred` in proofs/StarredLaws is its proof: by evaluation, but for the moduli near 2^24, where laws say how little has to be
 -- evaluated.
 --   typed, minus-square, zero-power   the formulas (Y^2-X)*(Y+3) - 2*X*Y, -Y^2 and 0^0
@@ -9,6 +9,8 @@ use mathlib.Core.Path.{_≡_}
 use mathlib.Core.Bool.{true}
 use mathlib.Core.List.{List, [], _∷_, _++_}
 use mathlib.Core.Option.{some}
+use lib.IntN.{pos, negsuc}
+use Rattle.numbers.specs.Words.{word, tabulate}
 use Rattle.numbers.specs.Refusals.{judge, refusal, accepted, refused, modulusChecks}
 use Rattle.numbers.specs.declared.refusal.Verdict.the-variants.{Pass, Refuse}
 use Rattle.series.specs.Series.{knownChecks, sums, product}
@@ -17,7 +19,7 @@ use Rattle.pair.specs.Pair.{order}
 use Rattle.pair.specs.Paired.{pairChecks}
 use Rattle.pair.specs.Test.{pairTest}
 use Rattle.sheet.specs.Test.{soundTest}
-use Rattle.sheet.specs.Sheet.{Given, givenOf, wholeOf, given-reach}
+use Rattle.sheet.specs.Sheet.{Given, givenOf, wholeOf, given-reach, given-polynomial}
 use Rattle.open.specs.Open.{powersOf, needed, openVerdict}
 use Rattle.open.specs.Find.{withRoots, findVerdict}
 use Rattle.extend.specs.Extend.{extendVerdict}
@@ -28,7 +30,9 @@ use Rattle.counts.specs.Counts.{subsets, countWords, countsChecks}
 use Rattle.formula.specs.Formula.{plus, minus, none, sign, number, letterX, letterY, bracket, plain, raised, one, times, Sum, first, more, reads, unreadable}
 use Rattle.formula.specs.Grammar.{Derives}
 use Rattle.read.specs.Read.{readDegree, readWords, readChecks}
-use Rattle.text.specs.Text.{bytes, listingText}
+use Rattle.signed.specs.Signed.{signedOf}
+use Rattle.simple.specs.Simple.{valueAt, simpleVerdict}
+use Rattle.text.specs.Text.{bytes, listingText, rootsText}
 use Rattle.listing.specs.Listing.{jobGiven, rooted, listVerdict}
 
 -- Y² − 1 − X over 7, three terms; its sheet with k terms and these factor rows, row 0 known to m terms
@@ -121,6 +125,10 @@ find-file = 7 ∷ 0 ∷ 2 ∷ 0 ∷ 3 ∷ 0 ∷ 0 ∷ 0 ∷ 12 ∷ 0 ∷ 12 ∷ 
 -- its listing
 abbrev job-text : List ℕ
 job-text = bytes "mod 7 terms 3 degree 2 factors 2\nroot 1 power 1\nY^0: 6 3 1\nroot 6 power 1\nY^0: 1 4 6\n"
+
+-- and that of its roots
+abbrev roots-text : List ℕ
+roots-text = bytes "mod 7 terms 3 degree 2 factors 2\nY = 1 -3 -1\nY = -1 3 1\n"
 
 abbrev pub Starred : Type 0
 Starred =
@@ -256,3 +264,20 @@ Starred =
     × (judge (readChecks 7 3 0 unreadable 0) ≡ Refuse (refusal 17 0))
     -- with one term X is 0
     × (readWords 7 1 (reads (first none (one (plain letterX)))) ≡ 0 ∷ [])
+    -- the job's roots go on to 1 4 6 and 6 3 1, at which the polynomial is 0; with their signs they are 1 −3 −1 and −1 3 1; 5 words are too few for them
+    × (tabulate 3 (valueAt 7 2 (given-polynomial job) (word (1 ∷ 4 ∷ 6 ∷ []))) ≡ 0 ∷ 0 ∷ 0 ∷ [])
+    × (tabulate 3 (valueAt 7 2 (given-polynomial job) (word (6 ∷ 3 ∷ 1 ∷ []))) ≡ 0 ∷ 0 ∷ 0 ∷ [])
+    × (simpleVerdict (job-sheet 3 (6 ∷ 3 ∷ 1 ∷ 1 ∷ 4 ∷ 6 ∷ [])) 6 ≡ Pass)
+    × (rootsText (job-sheet 3 (6 ∷ 3 ∷ 1 ∷ 1 ∷ 4 ∷ 6 ∷ [])) (1 ∷ 4 ∷ 6 ∷ 6 ∷ 3 ∷ 1 ∷ []) ≡ roots-text)
+    × (simpleVerdict (job-sheet 3 (6 ∷ 3 ∷ 1 ∷ 1 ∷ 4 ∷ 6 ∷ [])) 5 ≡ Refuse (refusal 10 6))
+    -- p = 2, where root 0 has power 2: 22 with 0, and before 10
+    × (simpleVerdict double-sheet 0 ≡ Refuse (refusal 22 0))
+    -- signed numbers: 0, p = 2, and on both sides of p/2
+    × (signedOf 7 0 ≡ pos 0)
+    × (signedOf 2 0 ≡ pos 0)
+    × (signedOf 2 1 ≡ pos 1)
+    × (signedOf 7 3 ≡ pos 3)
+    × (signedOf 7 4 ≡ negsuc 2)
+    × (signedOf 16777213 8388606 ≡ pos 8388606)
+    × (signedOf 16777213 8388607 ≡ negsuc 8388605)
+    × (signedOf 16777213 16777212 ≡ negsuc 0)

@@ -1,5 +1,5 @@
 -- The end theorems, in a row: what is promised of the calls, each with one plain sentence. `theorems` in proofs/TheoremsLaws proves them all.
---   PairTheorems, SheetTheorems, FindTheorems, CountTheorems, TypedTheorems, CallTheorems, KnownTheorems, RowTheorems, Theorems   the theorems, and all of them
+--   PairTheorems, SheetTheorems, FindTheorems, RootTheorems, CountTheorems, TypedTheorems, CallTheorems, KnownTheorems, RowTheorems, Theorems   the theorems, and all of them
 -- Assumes nothing.
 use Prim.Native.Nat.{ℕ, suc, _+_, _-_, _*_, _^_, _%_, _≤_, _<_}
 use mathlib.Core.Path.{_≡_}
@@ -21,9 +21,12 @@ use Rattle.rows.specs.Rows.{shiftChecks, rowProduct, rowShift, unit}
 use Rattle.pair.specs.Pair.{order, PairWords}
 use Rattle.pair.specs.Test.{pairTest}
 use Rattle.pair.specs.Paired.{Paired}
-use Rattle.roots.specs.Roots.{value, allRoots}
+use Rattle.rootfinding.specs.Roots.{value, allRoots}
+use Rattle.layout.specs.Layout.{modulus, degree, terms, count, root, power, polynomial, factor}
 use Rattle.sheet.specs.Sheet.{Sound, Given, givenOf, given-reach, Holds}
 use Rattle.sheet.specs.Test.{soundTest}
+use Rattle.simple.specs.Simple.{IsSeriesRoot, multipleCheck, SimpleRoots}
+use Rattle.signed.specs.Signed.{IsSigned, signedOf}
 use Rattle.open.specs.Open.{needed, polynomialChecks, topChecks, openVerdict, Opened}
 use Rattle.open.specs.Find.{withRoots, findVerdict, Found, IsProduct}
 use Rattle.extend.specs.Extend.{Extended}
@@ -37,6 +40,7 @@ use Rattle.formula.specs.Grammar.{Derives}
 use Rattle.read.specs.Read.{ReadOf}
 use Rattle.job.specs.Limits.{jobRoom}
 use Rattle.job.specs.Job.{place, field}
+use Rattle.text.specs.declared.Profile.{Profile}
 use Rattle.listing.specs.Listing.{IsListing, Listed}
 use Rattle.typed.specs.Limits.{longestInput}
 use Rattle.typed.specs.Order.{Orders}
@@ -88,6 +92,22 @@ pub record FindTheorems : Type 0 where
   pub roots-rise : (p : ℕ) (e : List ℕ) → rising (allRoots p e) ≡ true
   pub roots-are : (p : ℕ) (e : List ℕ) (c : ℕ) → ((i : ℕ) × (i < length (allRoots p e)) × (word (allRoots p e) i ≡ c)) ↔ ((c < p) × (value p c e ≡ 0))
 
+-- Roots as series.
+pub record RootTheorems : Type 0 where
+  -- Refusal 22 is given exactly where a sound sheet has a root of power above 1, with the least of these roots.
+  pub roots-multiple : (s : List ℕ) → Sound s → (c : ℕ) → (judge (multipleCheck s ∷ []) ≡ Refuse (refusal 22 c))
+      ↔ ((i : ℕ) × (i < count s) × (root s i ≡ c) × (1 < power s i) × ((j : ℕ) → j < count s → 1 < power s j → c ≤ root s j))
+  -- Where it is not given, each root goes on to exactly one series s with f(s) = 0 modulo X^k ..
+  pub root-one : (s : List ℕ) → Sound s → judge (multipleCheck s ∷ []) ≡ Pass → (i : ℕ) → i < count s
+      → One (λ (l : List ℕ). (length l ≡ terms s) × IsSeriesRoot (modulus s) (degree s) (terms s) (polynomial s) (root s i) (word l))
+  -- .. and its factor is Y − s: the factor's one lower row is minus s.
+  pub root-factor : (s : List ℕ) → Sound s → judge (multipleCheck s ∷ []) ≡ Pass → (i : ℕ) → i < count s → (u : ℕ → ℕ)
+      → IsSeriesRoot (modulus s) (degree s) (terms s) (polynomial s) (root s i) u → (t : ℕ) → t < terms s → (u t + factor s i 0 t) % modulus s ≡ 0
+  -- `simple_roots` has exactly one outcome on every input.
+  pub roots-one : (s old : List ℕ) → OneOutcome (SimpleRoots s old)
+  -- A number below p has exactly one signed number.
+  pub signed-one : (p v : ℕ) → v < p → TheOne (IsSigned p v) (signedOf p v)
+
 -- How often it splits.
 pub record CountTheorems : Type 0 where
   -- Of the monic polynomials of degree D over F_p, C(p, r) · C(D − 1, r − 1) split with exactly r distinct roots, r from 1 up: as many as there are sets of r
@@ -126,13 +146,13 @@ pub record CallTheorems : Type 0 where
   pub largest : (T : ℕ) (g : Given) (cs : List Call) → countEnd T (counting g) cs .terms ≡ largestAccepted 1 (countAnswers T (counting g) cs)
   -- `replay` has exactly one outcome on every input.
   pub replay-one : (calls start old : List ℕ) → One (λ (x : Outcome ℕ × List ℕ × List ℕ). Replayed calls start old (x .0) (x .1) (x .2))
-  -- A job comes to exactly one text, and listing it has one outcome only.
-  pub listing-one : (job : List ℕ) → One (IsListing job)
-  pub listed-only : (job old : List ℕ) (a a′ : Outcome ℕ) (new new′ : List ℕ) → Listed job old a new → Listed job old a′ new′ → (a ≡ a′) × (new ≡ new′)
+  -- A job comes to exactly one text of its factors, and to one of its roots, and listing it has one outcome only.
+  pub listing-one : (profile : Profile) (job : List ℕ) → One (IsListing profile job)
+  pub listed-only : (profile : Profile) (job old : List ℕ) (a a′ : Outcome ℕ) (new new′ : List ℕ) → Listed profile job old a new → Listed profile job old a′ new′ → (a ≡ a′) × (new ≡ new′)
   -- A file that does not begin with a word of 0 is read as document 01 has it: field i has two bytes, and byte 2i is its first.
   pub narrow-job : (job : List ℕ) (i : ℕ) → 0 < word job 0 + 256 * word job 1 → (field job i ≡ word job (2 * i) + 256 * word job (2 * i + 1)) × (place job i ≡ 2 * i)
-  -- Of a longer file the program reads the first `jobRoom` bytes, and these come to the same text.
-  pub listing-cut : (job text : List ℕ) → jobRoom ≤ length job → IsListing (take jobRoom job) text → IsListing job text
+  -- Of a longer file the programs read the first `jobRoom` bytes, and these come to the same text.
+  pub listing-cut : (profile : Profile) (job text : List ℕ) → jobRoom ≤ length job → IsListing profile (take jobRoom job) text → IsListing profile job text
 
 -- What is known to fewer terms than N.
 pub record KnownTheorems : Type 0 where
@@ -180,4 +200,4 @@ pub record RowTheorems : Type 0 where
       → rowShift p (D₁ + D₂) N (rowProduct p D₁ D₂ N f g) c ≡ rowProduct p D₁ D₂ N (rowShift p D₁ N f c) (rowShift p D₂ N g c)
 
 abbrev pub Theorems : Type 0
-Theorems = PairTheorems × SheetTheorems × FindTheorems × CountTheorems × TypedTheorems × CallTheorems × KnownTheorems × RowTheorems
+Theorems = PairTheorems × SheetTheorems × FindTheorems × RootTheorems × CountTheorems × TypedTheorems × CallTheorems × KnownTheorems × RowTheorems

@@ -40,6 +40,7 @@ use Rattle.text.specs.internal.Rooms.{sheetRoom, refusalRoom}
 use Rattle.text.specs.Text.{refusedText}
 use Rattle.text.specs.internal.Putting.{Puts}
 use Rattle.text.proofs.TextLaws.{puts-as}
+use Rattle.text.specs.declared.Profile.the-variants.{Factors}
 use Rattle.listing.specs.Listing.{TextOf, roomVerdict}
 use Rattle.listing.specs.internal.Writing.{rootedVerdict, Wrote, WroteGiven}
 use Rattle.listing.proofs.ListingLaws.{find-same, text-refused, one-text, put-first, put-fits, handed-fits, handed-never}
@@ -108,7 +109,7 @@ module _ (p d n : ℕ) (rows : List ℕ) where
       let g = rowsGiven p d n rows in
       record {
         text = refusedText 3 0;
-        is = text-refused (givenVerdict g) (withRoots g) (refusal 3 0) (take-check (check 3 (outside 1 mostDegree d) 0) (findChecks g (needed (withRoots g))) e);
+        is = text-refused Factors (givenVerdict g) (withRoots g) (refusal 3 0) (take-check (check 3 (outside 1 mostDegree d) 0) (findChecks g (needed (withRoots g))) e);
         puts = puts-as textRoom (refusedText 3 0) f refl (omega arith);
       }
 
@@ -118,8 +119,8 @@ module _ (p d n : ℕ) (rows : List ℕ) where
       let g = rowsGiven p d n rows in
       find-same g sheetRoom (inside 1 mostDegree d e .1) l refl ∙ sym (skip-check (check 3 (outside 1 mostDegree d) 0) (findChecks g (needed (withRoots g))) e)
 
-  pub rows-given : {out new : List ℕ} {at : ℕ} → outside 1 mostDegree d ≡ false → n ≤ mostWidth → WroteGiven (rowsGiven p d n rows) out at new → WroteRows p d n rows out at new
-  rows-given {out} {new} {at} e l w = subst (λ (v : Verdict). Wrote v (withRoots (rowsGiven p d n rows)) out at new) (rows-verdict e l) w
+  pub rows-given : {out new : List ℕ} {at : ℕ} → outside 1 mostDegree d ≡ false → n ≤ mostWidth → WroteGiven Factors (rowsGiven p d n rows) out at new → WroteRows p d n rows out at new
+  rows-given {out} {new} {at} e l w = subst (λ (v : Verdict). Wrote Factors v (withRoots (rowsGiven p d n rows)) out at new) (rows-verdict e l) w
 
 -- the text of an order
 told : (v : Verdict) (x n d : ℕ) → _≡_ {A = Outcome ℕ} (refused n d) (result v x) → v ≡ Refuse (refusal n d)
@@ -131,7 +132,7 @@ module _ (p n : ℕ) (typed : List ℕ) where
       → WroteTyped p n typed out at new
   typed-line q derived r e f = record {
     text = refusedText (r .number) (r .detail);
-    is = record { reading = q; derived = derived; is = text-refused (keyVerdict p n (length typed) q) (withRoots (typedGiven p n q)) r e };
+    is = record { reading = q; derived = derived; is = text-refused Factors (keyVerdict p n (length typed) q) (withRoots (typedGiven p n q)) r e };
     puts = puts-as textRoom (refusedText (r .number) (r .detail)) f refl (omega arith);
   }
 
@@ -164,13 +165,13 @@ module _ (p n : ℕ) (typed : List ℕ) where
       pub typed-rows : {out new : List ℕ} {at : ℕ} → WroteRows p d n words out at new → WroteTyped p n typed out at new
       typed-rows w =
           let G = typedGiven p n (h .reading) in
-          let x = subst (λ (g : Given). TextOf (givenVerdict g) (withRoots g) (w .text)) given-is (w .is) in
+          let x = subst (λ (g : Given). TextOf Factors (givenVerdict g) (withRoots g) (w .text)) given-is (w .is) in
           record {
             text = w .text;
             is = record {
               reading = h .reading;
               derived = h .derived;
-              is = subst (λ (v : Verdict). TextOf v (withRoots G) (w .text)) (sym (key-given p n (length typed) (h .reading) early (sym read-verdict ∙ passed .0))) x;
+              is = subst (λ (v : Verdict). TextOf Factors v (withRoots G) (w .text)) (sym (key-given p n (length typed) (h .reading) early (sym read-verdict ∙ passed .0))) x;
             };
             puts = w .puts;
           }
@@ -238,11 +239,11 @@ pub one-typed : (p N : ℕ) (typed : List ℕ) → One (TypedKey p N typed)
 one-typed p N typed =
     let q = scan (lead bottom) typed in
     let G = withRoots (typedGiven p N q) in
-    let t = one-text (keyVerdict p N (length typed) q) G (whole-reach p (G .D) N (G .rows) (G .roots)) (key-ready p N (length typed) q) in (
+    let t = one-text Factors (keyVerdict p N (length typed) q) G (whole-reach p (G .D) N (G .rows) (G .roots)) (key-ready p N (length typed) q) in (
       t .0,
       record {
         is = record { reading = q; derived = scan-derives typed; is = t .1 .is };
-        only = λ other x. t .1 .only other (subst (λ (r : Reading). TextOf (keyVerdict p N (length typed) r) (withRoots (typedGiven p N r)) other) (one-reading (x .reading) q typed (x .derived) (scan-derives typed)) (x .is));
+        only = λ other x. t .1 .only other (subst (λ (r : Reading). TextOf Factors (keyVerdict p N (length typed) r) (withRoots (typedGiven p N r)) other) (one-reading (x .reading) q typed (x .derived) (scan-derives typed)) (x .is));
       },
     )
 

@@ -24,6 +24,7 @@ use Rattle.open.specs.Find.{withRoots, findChecks}
 use Rattle.job.specs.Limits.{mostDegree, mostWidth}
 use Rattle.text.specs.Limits.{textRoom}
 use Rattle.text.specs.Text.{refusedText}
+use Rattle.text.specs.declared.Profile.the-variants.{Factors}
 use Rattle.listing.specs.Listing.{TextOf, roomVerdict}
 use Rattle.formula.specs.Formula.{Reading}
 use Rattle.formula.specs.Grammar.{Derives}
@@ -49,7 +50,7 @@ keyVerdict p N size r = judge (keyChecks p N size r)
 pub record TypedKey (p N : ℕ) (typed text : List ℕ) : Type 0 where
   pub reading : Reading
   pub derived : Derives typed reading
-  pub is : TextOf (keyVerdict p N (length typed) reading) (withRoots (typedGiven p N reading)) text
+  pub is : TextOf Factors (keyVerdict p N (length typed) reading) (withRoots (typedGiven p N reading)) text
 
 abbrev pub KeyOf : Order → List ℕ → Type 0
 KeyOf (asks p N typed) text = TypedKey p N typed text

@@ -11,6 +11,7 @@ use numbers::judge::outside;
 use numbers::refusal::Answer;
 use numbers::refusal::Verdict;
 use numbers::refusal::refuse;
+use text::Profile;
 ghost use mathlib.Core.Path.{_≡_};
 ghost use Prim.Native.Nat.{_-_, _≤_};
 ghost use lib.ListN.{length, take, drop};
@@ -48,7 +49,7 @@ fn write_rows(p: u32, d: u32, n: u32, rows: &[u32], out: &mut [u8]) -> usize
         return text::put_refusal(3, 0, out);
     }
     let m = ((d + 1) * n) as usize;
-    listing::kernel::write_given(p, d, n, &rows[..m], &rows[..0], out)
+    listing::kernel::write_given(Profile::Factors, p, d, n, &rows[..m], &rows[..0], out)
 }
 
 // The text of an order.

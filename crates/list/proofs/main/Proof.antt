@@ -3,6 +3,7 @@
 use mathlib.Core.Path.{refl, sym}
 use lib.Seq.{length-take-le}
 use native.Mathlib.Omega.{arith}
+use Rattle.text.specs.declared.Profile.the-variants.{Factors}
 use Rattle.listing.proofs.ListingLaws.{listed-fits}
 use borrow.Author.Needs.{needs}
 use Rattle.list.proofs.main.Statement.{statement}
@@ -27,12 +28,12 @@ reply-requires : tie.Need-reply-requires
 reply-requires c κs = search needs
 
 array-share-prefix-text : tie.Need-array-share-prefix-text
-array-share-prefix-text c = let h = listed-fits _ _ _ _ (c .before .reply .result) refl (c .before .reply .ensures) in omega arith
+array-share-prefix-text c = let h = listed-fits Factors _ _ _ _ (c .before .reply .ensures) (c .before .reply .result) refl in omega arith
 
 slice-aggregate-write-all : tie.Need-slice-aggregate-write-all
 slice-aggregate-write-all c =
     let reply = c .before .before .reply in
-    let h = listed-fits _ _ _ _ (reply .result) refl (reply .ensures) in sym (length-take-le (reply .result) _ (omega arith))
+    let h = listed-fits Factors _ _ _ _ (reply .ensures) (reply .result) refl in sym (length-take-le (reply .result) _ (omega arith))
 
 write-all-requires : tie.Need-write-all-requires
 write-all-requires c κs = search needs

@@ -162,7 +162,7 @@ returns c =
     let z = known b in
     let rows = loaded-first f (headFields + b .field3 .result) (headFields + jobCount f) (words b) ((jobDegree f + 1) * jobWidth f) _ _ (omega arith) (omega arith) (z .words-is) (c .before .before .before .before .before .before .before .before .load2 .ensures) in
     let roots = loaded-first f headFields headFields (b .field3 .result) (jobCount f) _ _ (omega arith) refl (z .count-is) (c .before .before .before .before .before .before .before .before .before .before .before .load .ensures) in
-    wrote-job f _ _ _ _ _ (c .before .before .before .before .before .before .field4 .ensures) (z .degree-is) (z .width-is) rows roots (start b .pre .0) (c .before .before .write-given .ensures)
+    wrote-job f _ _ _ _ _ (c .before .before .before .before .before .before .field4 .ensures) (z .degree-is) (z .width-is) rows roots (start b .args .profile) (start b .pre .0) (c .before .before .write-given .ensures)
 
 pub write-checked-spec : {M : Type 1} → statement M
 write-checked-spec =

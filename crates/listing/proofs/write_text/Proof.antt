@@ -19,7 +19,9 @@ same-length : tie.Need-same-length
 same-length c = search needs
 
 returns : tie.Need-returns
-returns c = wrote-early (c .before .before .before .before .before .before .before .before .before .before .args .job .now) _ (sym (c .before .before .before .before .before .before .before .check-job .ensures) ∙ c .before .before .before .before .before .r .given .1) (c .before .before .put-refusal .ensures)
+returns c =
+    let a = c .before .before .before .before .before .before .before .before .before .before .args in
+    wrote-early (a .profile) (a .job .now) _ (sym (c .before .before .before .before .before .before .before .check-job .ensures) ∙ c .before .before .before .before .before .r .given .1) (c .before .before .put-refusal .ensures)
 
 enum-told : tie.Need-enum-told
 enum-told c = search needs

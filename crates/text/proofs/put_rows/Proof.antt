@@ -8,23 +8,23 @@ use Rattle.layout.specs.Layout.{rowsAt}
 use Rattle.text.specs.internal.Rooms.{rowRoom}
 use Rattle.text.specs.internal.Putting.{Puts}
 use Rattle.text.specs.Text.{rowLines}
-use Rattle.text.proofs.SheetTextLaws.{rows-start, rows-on, rows-end, row-long, row-fits}
+use Rattle.text.proofs.SheetTextLaws.{rows-start, rows-on, rows-end, row-long, row-fits, row-below}
 use borrow.Author.Needs.{needs}
 use Rattle.text.proofs.put_rows.Statement.{statement}
 use Rattle.text.proofs.put_rows.Tie as tie
 
 abbrev Inv-loop : tie.InvT-loop
-Inv-loop sheet from n m at out₀ place₀ j₀ out place j = (j ≤ m) × Puts (rowRoom * j) (rowLines n j (rowsAt sheet from n)) at out₀ place out
+Inv-loop profile p words from n m at out₀ place₀ j₀ out place j = (j ≤ m) × Puts (rowRoom * j) (rowLines profile p n j (rowsAt words from n)) at out₀ place out
 
 abbrev μ-loop : tie.MeasureT-loop
-μ-loop sheet from n m at out₀ place₀ j₀ out place j = m - j
+μ-loop profile p words from n m at out₀ place₀ j₀ out place j = m - j
 
--- row j stands within the sheet
-row : (b : tie.In-loop Inv-loop μ-loop) → let a = b .before .before .before .before .args in a .from + b .before .loop .j * a .n + a .n ≤ length (a .sheet .now)
-row b = let a = b .before .before .before .before .args in row-fits (a .from) (a .m) (a .n) (b .before .loop .j) (length (a .sheet .now)) (omega arith) (omega arith)
+-- row j stands within the words
+row : (b : tie.In-loop Inv-loop μ-loop) → let a = b .before .before .before .before .args in a .from + b .before .loop .j * a .n + a .n ≤ length (a .words .now)
+row b = let a = b .before .before .before .before .args in row-fits (a .from) (a .m) (a .n) (b .before .loop .j) (length (a .words .now)) (omega arith) (omega arith)
 
 loop-holds : tie.Need-loop-holds Inv-loop μ-loop
-loop-holds c = (omega arith, rows-start _ _ _ _ (omega arith))
+loop-holds c = let a = c .before .before .args in (omega arith, rows-start (a .profile) (a .p) _ _ _ _ (omega arith))
 
 mul-start : tie.Need-mul-start Inv-loop μ-loop
 mul-start c = omega (arith, row c)
@@ -53,9 +53,11 @@ part-put-row-end c = omega (arith, row c)
 put-row-requires : tie.Need-put-row-requires Inv-loop μ-loop
 put-row-requires c κs =
     let b = c .before .before in
-    let a = b .before .before .before .before .args in
-    let l = row-long (a .sheet .now) (a .from + b .before .loop .j * a .n) (a .n) (row b) in
-    omega arith
+    let s = b .before .before .before .before in
+    let a = s .args in
+    let j = b .before .loop .j in
+    let l = row-long (a .words .now) (a .from + j * a .n) (a .n) (row b) in
+    (row-below (a .p) (a .words .now) (a .from) (a .n) (a .m) j (s .pre .0) (omega arith) (row b), s .pre .0 .small, omega arith)
 
 add-j : tie.Need-add-j Inv-loop μ-loop
 add-j c = search needs
@@ -68,7 +70,7 @@ loop-again c =
     let b = c .before .before .before .before .before in
     let a = b .before .before .before .before .args in
     let l = b .before .loop in
-    (omega arith, rows-on (a .sheet .now) (a .from) (a .n) (l .j) (a .at) (omega arith) (row b) refl (l .inv .1) (c .before .before .put-row .ensures))
+    (omega arith, rows-on (a .profile) (a .p) (a .words .now) (a .from) (a .n) (l .j) (a .at) (omega arith) (row b) refl (l .inv .1) (c .before .before .put-row .ensures))
 
 same-length : tie.Need-same-length Inv-loop μ-loop
 same-length c = c .before .loop .inv .1 .long
@@ -76,7 +78,7 @@ same-length c = c .before .loop .inv .1 .long
 returns : tie.Need-returns Inv-loop μ-loop
 returns c =
     let a = c .before .before .before .before .args in
-    rows-end (a .sheet .now) (a .from) (a .n) (a .m) (c .before .loop .j) (a .at) (c .before .loop .inv .1) (omega arith)
+    rows-end (a .profile) (a .p) (a .words .now) (a .from) (a .n) (a .m) (c .before .loop .j) (a .at) (c .before .loop .inv .1) (omega arith)
 
 pub put-rows-spec : {M : Type 1} → statement M
 put-rows-spec =

@@ -13,6 +13,7 @@ use Rattle.numbers.specs.declared.refusal.Verdict.{Verdict}
 use Rattle.sheet.specs.Sheet.{Given, wholeOf}
 use Rattle.open.specs.Find.{withRoots}
 use Rattle.text.specs.Limits.{textRoom}
+use Rattle.text.specs.declared.Profile.the-variants.{Factors}
 use Rattle.text.specs.internal.Putting.{Puts}
 use Rattle.listing.specs.internal.Writing.{Wrote}
 use Rattle.typed.specs.Key.{givenChecks, TypedKey, IsKey}
@@ -24,7 +25,7 @@ abbrev pub rowsGiven : (p d n : ℕ) → List ℕ → Given
 rowsGiven p d n rows = wholeOf p d n (take ((d + 1) * n) rows) []
 
 abbrev pub WroteRows : (p d n : ℕ) (rows old : List ℕ) (answer : ℕ) (new : List ℕ) → Type 0
-WroteRows p d n rows = Wrote (givenVerdict (rowsGiven p d n rows)) (withRoots (rowsGiven p d n rows))
+WroteRows p d n rows = Wrote Factors (givenVerdict (rowsGiven p d n rows)) (withRoots (rowsGiven p d n rows))
 
 pub record WroteTyped (p n : ℕ) (typed old : List ℕ) (answer : ℕ) (new : List ℕ) : Type 0 where
   pub text : List ℕ

@@ -10,7 +10,7 @@ use Rattle.open.proofs.OpeningLaws.{GivenReady}
 use Rattle.text.specs.internal.Rooms.{sheetRoom}
 use Rattle.listing.specs.Listing.{rooted}
 use Rattle.listing.specs.internal.Writing.{rootedVerdict}
-use Rattle.listing.proofs.ListingLaws.{rooted-ready, rooted-sizes, wrote-refused, given-listable, wrote-listed}
+use Rattle.listing.proofs.ListingLaws.{rooted-ready, rooted-sizes, wrote-refused, given-shows, wrote-listed}
 use borrow.Author.Needs.{needs}
 use Rattle.listing.proofs.kernel.write_given.Statement.{statement}
 use Rattle.listing.proofs.kernel.write_given.Tie as tie
@@ -43,7 +43,7 @@ same-length c = search needs
 returns : tie.Need-returns
 returns c =
     let s = c .before .before .before .before .before .before .before .before .before .before .before .before .before in
-    wrote-refused _ (rooted (given s)) (whole s) (ready s) _ _ _ (c .before .before .before .before .before .before .before .before .open-known .ensures) _ _ (ap outcome (c .before .before .before .before .before .r .given .1)) (c .before .before .put-refusal .ensures)
+    wrote-refused (s .args .profile) _ (rooted (given s)) (whole s) (ready s) _ _ _ (c .before .before .before .before .before .before .before .before .open-known .ensures) _ _ (ap outcome (c .before .before .before .before .before .r .given .1)) (c .before .before .put-refusal .ensures)
 
 enum-told : tie.Need-enum-told
 enum-told c = search needs
@@ -54,15 +54,16 @@ slice-aggregate-extend c = search needs
 extend-requires : tie.Need-extend-requires
 extend-requires c κs = search needs
 
-slice-aggregate-put-listing : tie.Need-slice-aggregate-put-listing
-slice-aggregate-put-listing c = search needs
+slice-aggregate-write-sheet : tie.Need-slice-aggregate-write-sheet
+slice-aggregate-write-sheet c = search needs
 
-put-listing-requires : tie.Need-put-listing-requires
-put-listing-requires c κs =
+write-sheet-requires : tie.Need-write-sheet-requires
+write-sheet-requires c κs =
     let s = c .before .before .before .before .before .before .before .before .before .before .before .before .before in
     let h = s .pre in
     let (d, n, _) = rooted-sizes (given s) in
-    (given-listable _ (rooted (given s)) (whole s) (ready s) _ _ _ (c .before .before .before .before .before .before .before .before .open-known .ensures) _ _ _ _ (ap outcome (c .before .before .before .before .before .enum-told .given .1)) (sym n) (omega arith) (omega arith) (c .before .before .before .extend .ensures), h .2)
+    let z = given-shows (s .args .profile) _ (rooted (given s)) (whole s) (ready s) _ _ _ (c .before .before .before .before .before .before .before .before .open-known .ensures) _ _ _ _ (ap outcome (c .before .before .before .before .before .enum-told .given .1)) (sym n) (omega arith) (omega arith) (c .before .before .before .extend .ensures) in
+    (z .0, z .1, z .2, h .2)
 
 same-length-2 : tie.Need-same-length-2
 same-length-2 c = search needs
@@ -70,7 +71,7 @@ same-length-2 c = search needs
 returns-2 : tie.Need-returns-2
 returns-2 c =
     let s = c .before .before .before .before .before .before .before .before .before .before .before .before .before .before .before .before in
-    wrote-listed _ (rooted (given s)) (whole s) (ready s) _ _ _ (c .before .before .before .before .before .before .before .before .before .before .before .open-known .ensures) _ _ _ _ (ap outcome (c .before .before .before .before .before .before .before .before .enum-told .given .1)) (sym (rooted-sizes (given s) .1)) (c .before .before .before .before .before .before .extend .ensures) (c .before .before .put-listing .ensures)
+    wrote-listed (s .args .profile) _ (rooted (given s)) (whole s) (ready s) _ _ _ (c .before .before .before .before .before .before .before .before .before .before .before .open-known .ensures) _ _ _ _ (ap outcome (c .before .before .before .before .before .before .before .before .enum-told .given .1)) (sym (rooted-sizes (given s) .1)) (c .before .before .before .before .before .before .extend .ensures) (c .before .before .write-sheet .ensures)
 
 pub write-given-spec : {M : Type 1} → statement M
 write-given-spec =
@@ -85,7 +86,7 @@ write-given-spec =
     enum-told
     slice-aggregate-extend
     extend-requires
-    slice-aggregate-put-listing
-    put-listing-requires
+    slice-aggregate-write-sheet
+    write-sheet-requires
     same-length-2
     returns-2)

@@ -1,0 +1,2 @@
+-- Definitions that only private contracts cite.
+pub mod Factors
