@@ -1,10 +1,10 @@
 //! Document 01's examples, by the words that it prints, and what document 02 changes in them: the sheet that F-8 makes smaller, the moduli of F-2, the one call for
 //! the pair of F-4, the quotient of F-5, the known lengths of F-9, the roots that F-3 finds, the entry that F-6 corrects, what F-13 counts,
-//! what F-1 reads, and the simple roots of F-10.
+//! what F-1 reads, the simple roots of F-10, and the variant of F-11.
 
 use crate::random::Random;
 use crate::report::{engine, Outcome, Report};
-use bopkheul::{counts, formula, listing, numbers, pair, series, sheet};
+use bopkheul::{counts, formula, listing, numbers, pair, rows, series, sheet};
 
 fn example<T: PartialEq + std::fmt::Debug>(report: &mut Report, what: &str, is: T, expected: T) {
     report.expect(is == expected, &format!("document 01, {what}: {is:?} is not {expected:?}"));
@@ -181,6 +181,31 @@ fn simple_roots(report: &mut Report) {
     report.kind("the simple roots of document 02's F-10");
 }
 
+/// The factors' rows of a polynomial with two simple roots modulo 7, to three terms.
+fn three_terms(f: &[u32], roots: &[u32]) -> Result<[u32; 6], (u32, u32)> {
+    let mut words = [0; 32];
+    engine(sheet::open(7, 2, 3, f, &[3, 3], roots, &mut words))?;
+    engine(sheet::extend(&mut words, 3))?;
+    Ok([26, 27, 28, 29, 30, 31].map(|at| words[at]))
+}
+
+/// Document 01's polynomial with Y + 2 for Y: its factors at Y + 2, each with its leading 1, in the other order.
+fn the_variant(report: &mut Report) {
+    let what = "document 02, F-11: document 01's polynomial with Y + 2 for Y";
+    let (f, variant) = ([6, 6, 0, 0, 0, 0, 1, 0, 0], [3, 6, 0, 4, 0, 0, 1, 0, 0]);
+    for (rows, c, moved) in [(f, 2, variant), (variant, 5, f)] {
+        let mut out = [9; 9];
+        report.expect(engine(rows::shift(7, 2, 3, &rows, c, &mut out)) == Ok(9) && out == moved, what);
+    }
+    report.expect(three_terms(&f, &[1, 6]) == Ok([6, 3, 1, 1, 4, 6]) && three_terms(&variant, &[4, 6]) == Ok([3, 4, 6, 1, 3, 1]), what);
+    report.expect(three_terms(&variant, &[6, 4]) == Err((8, 0)) && three_terms(&variant, &[1, 3]) == Err((9, 0)), what);
+    for (factor, moved) in [([6, 3, 1, 1, 0, 0], [1, 3, 1, 1, 0, 0]), ([1, 4, 6, 1, 0, 0], [3, 4, 6, 1, 0, 0])] {
+        let mut out = [9; 6];
+        report.expect(engine(rows::shift(7, 1, 3, &factor, 2, &mut out)) == Ok(6) && out == moved, what);
+    }
+    report.kind("the variant of document 02's F-11");
+}
+
 /// Y^d with n columns, opened with the root 0.
 fn power_of_y(d: u32, n: u32, room: usize) -> Outcome {
     let width = n as usize;
@@ -213,4 +238,5 @@ pub fn run(_: &mut Random, report: &mut Report) {
     the_counts(report);
     the_formula(report);
     simple_roots(report);
+    the_variant(report);
 }

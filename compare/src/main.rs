@@ -15,6 +15,7 @@ mod lengths;
 mod listings;
 mod numbers;
 mod old_layout;
+mod origin;
 mod pairs;
 mod polynomials;
 mod quotients;
@@ -36,7 +37,7 @@ use std::thread::{available_parallelism, scope, Builder};
 
 type Section = fn(&mut Random, &mut Report);
 
-const SECTIONS: [Section; 19] = [
+const SECTIONS: [Section; 20] = [
     documents::run,
     numbers::run,
     series::run,
@@ -56,6 +57,7 @@ const SECTIONS: [Section; 19] = [
     typed::run,
     keys::run,
     simple::run,
+    origin::run,
 ];
 
 /// As much as a main thread has: brackets in a typed text are read by calls within calls.

@@ -2,7 +2,7 @@
 
 use crate::polynomials;
 use crate::random::Random;
-use crate::report::{engine, every_set, second, Fault, Outcome, Report};
+use crate::report::{engine, every_set, second, Called, Fault, Outcome, Report};
 use crate::sheets::{extend, opened};
 use bopkheul::{sheet as e, Sheet};
 use second::sheet as s;
@@ -23,10 +23,19 @@ struct Case {
 
 type Call = fn(&mut Report, &Case) -> Outcome;
 
-fn read(report: &mut Report, case: &Case) -> Outcome {
-    let Case { sheet, i, out, .. } = case;
+pub fn factor(report: &mut Report, sheet: &[u32], i: u32, out: &[u32]) -> Called<u32> {
     let input = || format!("i {i} sheet {sheet:?}");
-    report.call("sheet factor", input, &[sheet], out, |o| engine(e::factor(sheet, *i, o)), |o| second(s::factor(sheet, *i, o))).outcome
+    report.call("sheet factor", input, &[sheet], out, |o| engine(e::factor(sheet, i, o)), |o| second(s::factor(sheet, i, o)))
+}
+
+pub fn factor_shift(report: &mut Report, sheet: &[u32], i: u32, c: u32, out: &[u32]) -> Called<u32> {
+    let input = || format!("i {i} c {c} sheet {sheet:?}");
+    let mine = |o: &mut [u32]| engine(e::factor_shift(sheet, i, c, o));
+    report.call("sheet factor shift", input, &[sheet], out, mine, |o| second(s::factor_shift(sheet, i, c, o)))
+}
+
+fn read(report: &mut Report, case: &Case) -> Outcome {
+    factor(report, &case.sheet, case.i, &case.out).outcome
 }
 
 fn times(report: &mut Report, case: &Case) -> Outcome {
@@ -38,12 +47,7 @@ fn times(report: &mut Report, case: &Case) -> Outcome {
 }
 
 fn shift(report: &mut Report, case: &Case) -> Outcome {
-    let Case { sheet, i, c, out, .. } = case;
-    let (i, c) = (*i, *c);
-    let input = || format!("i {i} c {c} sheet {sheet:?}");
-    report
-        .call("sheet factor shift", input, &[sheet], out, |o| engine(e::factor_shift(sheet, i, c, o)), |o| second(s::factor_shift(sheet, i, c, o)))
-        .outcome
+    factor_shift(report, &case.sheet, case.i, case.c, &case.out).outcome
 }
 
 fn power(sheet: &[u32], i: u32) -> u32 {

@@ -90,7 +90,7 @@ pub const OPERATIONS: [Operation; 32] = [
 ];
 
 /// Kinds of inputs: each must have come up.
-pub const KINDS: [&str; 361] = [
+pub const KINDS: [&str; 387] = [
     "document 01's examples",
     "the sheet of document 02's F-8",
     "the moduli of document 02's F-2",
@@ -101,6 +101,7 @@ pub const KINDS: [&str; 361] = [
     "the counts of document 02's F-13",
     "the typed polynomial of document 02's F-1",
     "the simple roots of document 02's F-10",
+    "the variant of document 02's F-11",
     "every modulus from 0 to 66,000",
     "every modulus from 16,776,000 to 16,778,000",
     "a prime below 4,096, squared",
@@ -452,6 +453,31 @@ pub const KINDS: [&str; 361] = [
     "demand 3: a sheet whose roots were found",
     "demand 3: a sheet that was corrected",
     "demand 3: parted by one entry, and brought together by its correction",
+    "origin: all lengths N",
+    "origin: equal lengths below N",
+    "origin: lengths that differ, cut to the least",
+    "origin: c is 0",
+    "origin: c is a root of f",
+    "origin: c is p − 1",
+    "origin: every c below p",
+    "origin: the moved list is turned",
+    "origin: the moved list keeps its order",
+    "origin: a factor of power above 1",
+    "origin: p is below the degree",
+    "origin: one root of power D",
+    "origin: 32 simple roots",
+    "origin: D is 32",
+    "origin: N is 256",
+    "origin: p is 16,777,213",
+    "origin: worked in several goes",
+    "origin: worked to one term only",
+    "origin: worked to the least length",
+    "origin: refused by 8, the moved list in f's own order",
+    "origin: refused by 9, the roots moved the other way",
+    "origin: refused by 21, not cut",
+    "origin: refused by 21, not cut, one row known further than the others",
+    "origin: not cut, and no word past a length",
+    "origin: a factor's part shifted without its leading 1 is another",
 ];
 
 #[derive(Default)]

@@ -1,7 +1,7 @@
 //! Row polynomials.
 
 use crate::random::Random;
-use crate::report::{engine, second, Report};
+use crate::report::{engine, second, Called, Report};
 use bopkheul::rows as e;
 use second::rows as s;
 
@@ -55,13 +55,19 @@ fn spoil(random: &mut Random, case: &mut Case, fault: Fault) {
     }
 }
 
+/// f(Y + c), for f of degree bound d.
+pub fn shift(report: &mut Report, p: u32, d: u32, n: u32, f: &[u32], c: u32, out: &[u32]) -> Called<u32> {
+    let input = || format!("p {p} d {d} n {n} f {f:?} c {c}");
+    report.call("rows shift", input, &[f], out, |o| engine(e::shift(p, d, n, f, c, o)), |o| second(s::shift(p, d, n, f, c, o)))
+}
+
 fn compare_same_bound(report: &mut Report, case: &Case) {
     let Case { p, d: [d, _], n, inputs: [f, g], c, out } = case;
     let (p, d, n, c) = (*p, *d, *n, *c);
-    let input = || format!("p {p} d {d} n {n} f {f:?} g {g:?} c {c}");
+    let input = || format!("p {p} d {d} n {n} f {f:?} g {g:?}");
     report.call("rows sum", input, &[f, g], out, |o| engine(e::sum(p, d, n, f, g, o)), |o| second(s::sum(p, d, n, f, g, o)));
     report.call("rows difference", input, &[f, g], out, |o| engine(e::difference(p, d, n, f, g, o)), |o| second(s::difference(p, d, n, f, g, o)));
-    report.call("rows shift", input, &[f], out, |o| engine(e::shift(p, d, n, f, c, o)), |o| second(s::shift(p, d, n, f, c, o)));
+    shift(report, p, d, n, f, c, out);
 }
 
 fn compare_product(report: &mut Report, case: &Case) {

@@ -109,6 +109,14 @@ module _ {R : Type 0} (𝓡 : CommRing R) where
   prod-ext (suc n) {F} {G} h =
       prod-suc n F ∙ ap₂ _*_ (h zero (omega arith)) (prod-ext n (λ i l. h (suc i) (omega arith))) ∙ sym (prod-suc n G)
 
+  pub prod-append : (n m : ℕ) (F : ℕ → R) → prod 𝓡 (n +ₙ m) F ≡ prod 𝓡 n F * prod 𝓡 m (λ i. F (n +ₙ i))
+  prod-append zero m F =
+      ap (λ x. prod 𝓡 x F) (zeroₙ-add m) ∙ sym (one-mul 𝓡 (prod 𝓡 m F)) ∙ ap₂ _*_ (sym (prod-zero F)) (prod-ext m (λ i l. ap F (sym (zeroₙ-add i))))
+  prod-append (suc n) m F =
+      ap (λ x. prod 𝓡 x F) (suc-add n m) ∙ prod-suc (n +ₙ m) F
+      ∙ ap (λ x. F zero * x) (prod-append n m (λ i. F (suc i))) ∙ sym (mul-assoc 𝓡 (F zero) (prod 𝓡 n (λ i. F (suc i))) (prod 𝓡 m (λ i. F (suc (n +ₙ i)))))
+      ∙ ap₂ _*_ (sym (prod-suc n F)) (prod-ext m (λ i l. ap F (sym (suc-add n i))))
+
   abbrev pub prodFrom : ℕ → ℕ → (ℕ → R) → R
   prodFrom i n F = prod 𝓡 (n - i) (λ l. F (i +ₙ l))
 

@@ -1,18 +1,22 @@
 -- The shift: f(Y + c) for polynomials of bounded degree over any commutative ring, and column by column.
 --   shift c n a           a(Y + c), where a has degree below n: a 0 + (Y + c) · (the shift of what follows)
 --   shiftColumns c n f    each column shifted
+--   shift-prod            the shift of a product of monic polynomials is the product of their shifts
 -- Y + c is `lin (neg c)`. Assumes nothing.
-use Prim.Native.Nat.{ℕ, zero, suc, _+_ as _+ₙ_}
+use Prim.Native.Nat.{ℕ, zero, suc, _+_ as _+ₙ_, _<_}
 use native.Mathlib.Nat.{suc-add, add-suc, add-zero as addₙ-zero, add-comm as addₙ-comm}
 use native.Mathlib.Omega.{arith}
 use mathlib.Core.Path.{_≡_, refl, sym, _∙_, ap, ap₂, subst, fun-ext}
-use Rattle.algebra.specs.internal.Ring.{CommRing, ring, units, add-comm, add-neg, zero-add, zero-mul, mul-one, mul-left-comm, pow}
-use Rattle.algebra.proofs.RingLaws.{minus, neg-neg, expand, pow-zero, pow-suc}
+use Rattle.algebra.specs.Sums.{sumTo}
+use Rattle.algebra.proofs.SumsLaws.{sumTo-zero}
+use Rattle.algebra.specs.internal.Ring.{CommRing, ring, units, add-comm, add-neg, zero-add, zero-mul, mul-one, mul-left-comm, pow, prod}
+use Rattle.algebra.proofs.RingLaws.{minus, neg-neg, expand, pow-zero, pow-suc, prod-zero, prod-suc}
 use Rattle.algebra.specs.internal.Series.{Series, tail, conv, conv-zero, conv-suc}
-use Rattle.algebra.proofs.SeriesLaws.{sum, sum-zero, sum-suc, sum-scale, sum-ext, add-at, mul-at-zero, mul-at-suc, sum-at, tail-add}
+use Rattle.algebra.proofs.SeriesLaws.{sum, sum-zero, sum-suc, sum-scale, sum-ext, add-at, mul-at-zero, mul-at-suc, sum-at, tail-add, one-at}
 use Rattle.algebra.specs.internal.Poly.{const, lin, linPow, Columns}
 use Rattle.algebra.proofs.PolyLaws.{const-coeff-zero, const-coeff-suc, lin-coeff-zero, lin-coeff-suc, const-mul, const-const, const-zero, const-add, one-const, Below, below-zero, below-more, below-tail, below-𝟘, below-add, below-const, below-one, below-lin, below-mul, below-lin-mul, poly-pow, horner-zero, eval, eval-suc, eval-add, eval-const, eval-mul, eval-lin, head-tail}
 use Rattle.algebra.proofs.ColumnsLaws.{mul-columns, conv-below}
+use Rattle.algebra.proofs.Chain.{Monic, prod-monic}
 
 -- the identities behind it, over ring variables
 module _ {S : Type 0} (𝓢 : CommRing S) where
@@ -212,3 +216,32 @@ module _ {R : Type 0} (𝓡 : CommRing R) where
   shift-columns-mul-at c n k l f g h w b =
       fun-ext (λ t. shift-bound c l (n +ₙ k) (Columns 𝓡 .mul f g t) (b t) (rw (mul-columns 𝓡 f g t) (conv-below 𝓡 n k t f g (λ i _. h i) (λ i _. below-more 𝓡 (omega arith) (w i)))))
       ∙ shift-columns-mul c n k f g h w
+
+  shift-columns-one : (c : R) → shiftColumns c 1 (Columns 𝓡 .𝟙) ≡ Columns 𝓡 .𝟙
+  shift-columns-one c = fun-ext (elim [
+    | zero ↦ ap (shift c 1) one ∙ shift-one c zero ∙ sym one
+    | suc t ↦ ap (shift c 1) (more t) ∙ shift-𝟘 c 1 ∙ sym (more t)
+  ])
+    where
+      one : Columns 𝓡 .𝟙 zero ≡ 𝟙ₛ
+      one = ap (λ x. x zero) (one-at (Series 𝓡))
+
+      more : (t : ℕ) → Columns 𝓡 .𝟙 (suc t) ≡ 𝟘ₛ
+      more t = ap (λ x. x (suc t)) (one-at (Series 𝓡))
+
+  -- a product of monic polynomials
+  pub shift-prod : (c : R) (r : ℕ) (m : ℕ → ℕ) (F : ℕ → ℕ → ℕ → R) → ((i : ℕ) → i < r → Monic 𝓡 (m i) (F i))
+      → shiftColumns c (suc (sumTo r m)) (prod (Columns 𝓡) r F) ≡ prod (Columns 𝓡) r (λ i. shiftColumns c (suc (m i)) (F i))
+  shift-prod c zero m F h =
+      ap₂ (λ n x. shiftColumns c (suc n) x) (sumTo-zero m) (prod-zero (Columns 𝓡) F) ∙ shift-columns-one c
+      ∙ sym (prod-zero (Columns 𝓡) (λ i. shiftColumns c (suc (m i)) (F i)))
+  shift-prod c (suc r) m F h =
+      let rest = prod (Columns 𝓡) r (λ i. F (suc i)) in
+      let k = sumTo r (λ i. m (suc i)) in
+      let e : prod (Columns 𝓡) (suc r) F ≡ Columns 𝓡 .mul (F zero) rest = prod-suc (Columns 𝓡) r F in
+      let whole : Monic 𝓡 (sumTo (suc r) m) (Columns 𝓡 .mul (F zero) rest) = subst (Monic 𝓡 (sumTo (suc r) m)) e (prod-monic 𝓡 (suc r) m F h) in
+      let later : Monic 𝓡 k rest = prod-monic 𝓡 r (λ i. m (suc i)) (λ i. F (suc i)) (λ i l. h (suc i) (omega arith)) in
+      ap (shiftColumns c (suc (sumTo (suc r) m))) e
+      ∙ shift-columns-mul-at c (suc (m zero)) (suc k) (suc (sumTo (suc r) m)) (F zero) rest (h zero (omega arith) .bound) (later .bound) (whole .bound)
+      ∙ ap (Columns 𝓡 .mul (shiftColumns c (suc (m zero)) (F zero))) (shift-prod c r (λ i. m (suc i)) (λ i. F (suc i)) (λ i l. h (suc i) (omega arith)))
+      ∙ sym (prod-suc (Columns 𝓡) r (λ i. shiftColumns c (suc (m i)) (F i)))

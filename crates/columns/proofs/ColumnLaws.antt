@@ -12,7 +12,7 @@ use lib.Seq.{ext-getD, getD-append-add, getD-drop, getD-take, getD-set-same, get
 use Rattle.numbers.specs.Words.{word, tabulate, over}
 use Rattle.numbers.specs.internal.Facts.{AllBelow}
 use Rattle.rows.specs.Rows.{rowsOf}
-use Rattle.numbers.proofs.WordsLaws.{lt-or-ge, length-tabulate, word-tabulate, tabulate-below, length-over, over-whole, Writing, writing-next, over-past, writing-past, from, from-is, drop-below}
+use Rattle.numbers.proofs.WordsLaws.{lt-or-ge, length-tabulate, word-tabulate, tabulate-below, length-over, over-whole, Writing, writing-next, over-past, writing-past, from, from-is, drop-below, append-below}
 use Rattle.numbers.specs.internal.Limits.{modulusBound}
 use Rattle.rows.proofs.RowsLaws.{row-fits}
 use Rattle.columns.specs.internal.Column.{hornerWord, hornerWords, lessMultiple, digitOf, digitWords, lineTimes, ColumnStored, middleSum, firstOnly}
@@ -190,15 +190,6 @@ module _ (a len : ℕ) (s y : List ℕ) (fits : a + len ≤ length s) (ny : leng
 cons-below : (p q : ℕ) (s : List ℕ) → q < p → AllBelow p s → AllBelow p (q ∷ s)
 cons-below p q s h b zero l = h
 cons-below p q s h b (suc k) l = b k (omega arith)
-
-pub append-below : (p : ℕ) (s t : List ℕ) → AllBelow p s → AllBelow p t → AllBelow p (s ++ t)
-append-below p s t hs ht k l =
-    ⊎-elim
-    (λ (x : k < length s). rw (List·getD-append s t 0 k x) (hs k x))
-    (λ (x : length s ≤ k).
-    let q : length s + (k - length s) ≡ k = omega arith in
-    subst (λ (i : ℕ). word (s ++ t) i < p) q (rw (getD-append-add s t (k - length s) 0) (ht (k - length s) (omega (arith, length-append s t)))))
-    (lt-or-ge k (length s))
 
 over-below : (p : ℕ) (xs s : List ℕ) → AllBelow p xs → AllBelow p s → AllBelow p (over xs s)
 over-below p xs s h g = append-below p xs (drop (length xs) s) h (drop-below p (length xs) s g)

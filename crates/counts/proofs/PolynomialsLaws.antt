@@ -24,12 +24,11 @@ use Rattle.algebra.proofs.BridgeLaws.{same-rem, rem-one}
 use Rattle.numbers.specs.Words.{word, rising, tabulate}
 use Rattle.numbers.specs.Limits.{largestModulus, largestDegree}
 use Rattle.numbers.specs.internal.Facts.{AllBelow}
-use Rattle.numbers.proofs.WordsLaws.{length-tabulate, word-tabulate, tabulate-below}
+use Rattle.numbers.proofs.WordsLaws.{length-tabulate, word-tabulate, tabulate-below, append-below}
 use Rattle.numbers.proofs.TestsLaws.{rising-are}
 use Rattle.numbers.proofs.EnumerationLaws.{bit, sumOver}
 use Rattle.rows.specs.Rows.{unit}
 use Rattle.series.proofs.CheckLaws.{one-below}
-use Rattle.columns.proofs.ColumnLaws.{append-below}
 use Rattle.layout.specs.Layout.{rowsAt}
 use Rattle.hensel.specs.Factors.{split}
 use Rattle.hensel.proofs.FactorsLaws.{product-lt, rootsOf}

@@ -1,6 +1,7 @@
 -- The conditions of the factors, carried to chains of factors over F_p: they have at most one solution, and it determines the polynomial.
 --   product-rem         the plain product of a list of row polynomials is their product over F_p
 --   product-ext         a product's columns below k are determined by those of its factors
+--   first-column        a factor at X = 0 is a power of Y − c
 --   factors-chain       lists of factors are chains over F_p
 --   factors-determine   where two factor lists agree below X^(n + 1), r, roots, powers and columns, their polynomials do
 --   factors-unique      and the lists agree where the polynomials do
@@ -124,14 +125,18 @@ module _ {p : ℕ} (prime : Prime p) where
       let u = up i l in
       omega arith
 
+  -- a factor at X = 0
+  pub first-column : (c m : ℕ) (a : ℕ → ℕ → ℕ) → c < p → ((j : ℕ) → j < m → a j zero ≡ rootPower p c m j) → col p pos (monic m a) zero ≡ linPow (Fp p pos) (q c) m
+  first-column c m a l h = fun-ext (by-place (λ j. q (monic m a j zero) ≡ linPow (Fp p pos) (q c) m j) m
+      (λ j g. ap q (monic-low m a j zero g ∙ h j g) ∙ ap (λ x. x j) (root-power p pos c l m))
+      (ap q (monic-top m a zero) ∙ rem-one p pos ∙ sym (linPow-top (Fp p pos) (q c) m))
+      (λ j g. ap q (monic-above m a j zero g) ∙ rem-zero p pos ∙ sym (below-linPow (Fp p pos) (q c) m j g)))
+
   module _ (D k r : ℕ) (f : ℕ → ℕ → ℕ) (root power : ℕ → ℕ) (a : ℕ → ℕ → ℕ → ℕ) (h : IsFactors p D k r f root power a) where
     pub factors-chain : IsChain (K p pos) r (rootsOf root) power (columnsOf power a)
     factors-chain = record {
       powers = h .powers;
-      first = λ i l. fun-ext (by-place (λ j. q (monic (power i) (a i) j zero) ≡ linPow (K p pos) (q (root i)) (power i) j) (power i)
-          (λ j g. ap q (monic-low (power i) (a i) j zero g ∙ h .first i l j g) ∙ ap (λ x. x j) (root-power p pos (root i) (h .reduced i l) (power i)))
-          (ap q (monic-top (power i) (a i) zero) ∙ rem-one p pos ∙ sym (linPow-top (K p pos) (q (root i)) (power i)))
-          (λ j g. ap q (monic-above (power i) (a i) j zero g) ∙ rem-zero p pos ∙ sym (below-linPow (K p pos) (q (root i)) (power i) j g)));
+      first = λ i l. first-column (root i) (power i) (a i) (h .reduced i l) (h .first i l);
       low = λ i l t j g. ap q (monic-later (power i) (a i) j t g) ∙ rem-zero p pos;
     }
 

@@ -1,2 +1,3 @@
 pub mod BlocksLaws
 pub mod FactorsLaws
+pub mod ShiftedLaws

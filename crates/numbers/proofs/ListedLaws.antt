@@ -2,6 +2,7 @@
 --   where-step, where-last   the first number, and the last one, is listed or not, as it passes or not
 --   where-ext                tests that agree list the same
 --   At s c, Absent s c       c stands in the list, or does not; at-or-not: one of both holds
+--   rising-same              lists that rise, of one length, are equal where the words of one stand in the other
 --   Listed ..                what makes a list this one: it rises, and its words are all the numbers that pass
 --   where-listed, listed-is  `allWhere` is such a list, and no other is
 -- Assumes nothing.
@@ -9,10 +10,11 @@ use mathlib.Core.Path.{_≡_, refl, sym, ap, subst, _∙_}
 use mathlib.Core.Bool.{Bool, true, false}
 use mathlib.Core.Logic.{_≢_, _⊎_, inl, inr, ⊎-elim}
 use mathlib.Core.List.{List, [], _∷_, _++_}
-use Prim.Native.Nat.{ℕ, zero, suc, _+_, _≤_, _<_}
+use Prim.Native.Nat.{ℕ, zero, suc, _+_, _-_, _≤_, _<_}
 use native.Mathlib.Nat.{eq-or-lt-of-le, le-of-suc-le-suc, le-refl, add-zero}
 use native.Mathlib.Omega.{arith}
 use lib.ListN.{length}
+use lib.Seq.{ext-getD}
 use Rattle.algebra.proofs.Chain.{rising-all}
 use Rattle.numbers.specs.Words.{word, keep, allWhere}
 use Rattle.numbers.specs.internal.Facts.{Rising}
@@ -63,6 +65,31 @@ at-or-not (x ∷ s) c = by (lt-or-ge x c) (lt-or-ge c x)
     by (inl l) g other = other (λ e. let z : ⊥ = omega arith in z)
     by (inr l) (inl g) other = other (λ e. let z : ⊥ = omega arith in z)
     by (inr l) (inr g) other = inl (zero, omega arith, omega arith)
+
+-- where the words of one list stand in another they stand in the same order, so that none is moved
+module _ (a b : List ℕ) (up : Rising a) (up′ : Rising b) (long : length b ≡ length a) (stands : (i : ℕ) → i < length a → At b (word a i)) where
+  ordered : (i : ℕ) (l : suc i < length a) (u : i < length a) → stands i u .0 < stands (suc i) l .0
+  ordered i l u =
+      let (x, xl, ex) = stands i u in
+      let (y, yl, ey) = stands (suc i) l in
+      let h = up i l in
+      ⊎-elim (λ (v : x < y). v)
+      (λ (v : y ≤ x). ⊎-elim (λ (e : y ≡ x). absurd (let q = ap (word b) e in let z : ⊥ = omega arith in z))
+      (λ (w : y < x). absurd (let q = rising-all (λ k. k) (length b) (word b) up′ y x w xl in let z : ⊥ = omega arith in z)) (eq-or-lt-of-le v)) (lt-or-ge x y)
+
+  not-before : (i : ℕ) (l : i < length a) → i ≤ stands i l .0
+  not-before zero l = omega arith
+  not-before (suc i) l = let u : i < length a = omega arith in let x = not-before i u in let y = ordered i l u in omega arith
+
+  not-after : (d i : ℕ) (l : i < length a) → i + suc d ≡ length a → stands i l .0 + suc d ≤ length a
+  not-after zero i l e = let x = stands i l .1 in omega arith
+  not-after (suc d) i l e = let u : suc i < length a = omega arith in let x = not-after d (suc i) u (omega arith) in let y = ordered i u l in omega arith
+
+  pub rising-same : a ≡ b
+  rising-same = ext-getD 0 a b (sym long) (λ i l.
+      let x = not-before i l in
+      let y = not-after (length a - suc i) i l (omega arith) in
+      sym (stands i l .2) ∙ ap (word b) (let e : stands i l .0 ≡ i = omega arith in e))
 
 module _ (test : ℕ → Bool) where
   -- the numbers d, d + 1, .., d + n − 1 that pass

@@ -6,7 +6,7 @@ use mathlib.Core.List.{List, [], _∷_, _++_}
 use Prim.Native.Nat.{ℕ, _*_, _≤_, _<_}
 use native.Mathlib.Nat.{mul-le-mul}
 use native.Mathlib.Omega.{arith}
-use borrow.Author.Tests.{ltb-false, not-false, eqb-true, le-ltb, lt-ltb}
+use borrow.Author.Tests.{ltb-false, not-false, eqb-true, eq-eqb, le-ltb, lt-ltb}
 use lib.Dec.{ltb, eqb}
 use lib.ListN.{length}
 use mathlib.Core.Logic.{⊎-elim}
@@ -18,7 +18,7 @@ use Rattle.numbers.specs.Refusals.{Check, check, judge, refusal, Outcome
 use Rattle.numbers.specs.declared.refusal.Refusal.{Refusal}
 use Rattle.numbers.specs.declared.refusal.Verdict.{Verdict}
 use Rattle.numbers.specs.declared.refusal.Verdict.the-variants.{Pass, Refuse}
-use Rattle.numbers.proofs.WordsLaws.{none-large, below-append, large-there, lt-or-ge, true-false}
+use Rattle.numbers.proofs.WordsLaws.{none-large, below-append, append-below, large-there, lt-or-ge, true-false}
 use Rattle.numbers.proofs.DivisorLaws.{least-prime, prime-least}
 use Rattle.numbers.specs.Limits.{largestModulus, mostRows, largestWidth}
 use Rattle.numbers.specs.internal.Limits.{modulusBound}
@@ -194,6 +194,17 @@ inputs-pass p N f fRows g gRows rows e =
       f-below = f-below;
       g-below = g-below;
     }
+
+-- and checks 1 to 6 pass where this is so
+pub inputs-fine : (p N : ℕ) (f : List ℕ) (fRows : ℕ) (g : List ℕ) (gRows rows : ℕ)
+    → Inputs p N f fRows g gRows rows → judge (inputChecks p N f fRows g gRows rows) ≡ Pass
+inputs-fine p N f fRows g gRows rows h =
+    after-pass (modulusChecks p) (shapeChecks p N f fRows g gRows rows) (modulus-fine p (h .modulus .prime) (omega (arith, h .modulus .small)))
+    ∙ skip-check (rowsCheck fRows gRows rows) _ (rw (le-ltb mostRows fRows (h .f-high), le-ltb mostRows gRows (h .g-high), le-ltb mostRows rows (h .high)) refl)
+    ∙ skip-check (widthCheck N) _ (within 1 largestWidth N (h .width-low) (h .width-high))
+    ∙ skip-check (lengthsCheck N f fRows g gRows) _ (rw (eq-eqb (length f) (fRows * N) (h .f-long), eq-eqb (length g) (gRows * N) (h .g-long)) refl)
+    ∙ skip-check (reducedCheck p (f ++ g)) [] (below-reduced p (f ++ g) (append-below p f g (h .f-below) (h .g-below)))
+    ∙ none-judged
 
 -- and where check 10 passes too
 pub record Operation (p N : ℕ) (f : List ℕ) (fRows : ℕ) (g : List ℕ) (gRows rows room : ℕ) : Type 0 where

@@ -107,6 +107,15 @@ below-append p s t h = (
   λ k l. subst (λ x. x < p) (getD-append-add s t k 0) (h (length s + k) (omega (arith, length-append s t))),
 )
 
+pub append-below : (p : ℕ) (s t : List ℕ) → AllBelow p s → AllBelow p t → AllBelow p (s ++ t)
+append-below p s t hs ht k l =
+    ⊎-elim
+    (λ (x : k < length s). rw (List·getD-append s t 0 k x) (hs k x))
+    (λ (x : length s ≤ k).
+    let q : length s + (k - length s) ≡ k = omega arith in
+    subst (λ (i : ℕ). word (s ++ t) i < p) q (rw (getD-append-add s t (k - length s) 0) (ht (k - length s) (omega (arith, length-append s t)))))
+    (lt-or-ge k (length s))
+
 -- the first large word: none before it is, and it is, unless it is the end
 pub first-large-is : (p : ℕ) (s : List ℕ) (r : ℕ) → r ≤ length s → ((k : ℕ) → k < r → word s k < p)
     → (r < length s → p ≤ word s r) → firstLarge p s ≡ r
@@ -121,12 +130,16 @@ head-below : (p x n t : ℕ) (b : Bool) → leb p x ≡ b → suc n ≤ choose b
 head-below p x n t true e h = omega arith
 head-below p x n t false e h = (leb-false p x e, le-of-suc-le-suc h)
 
--- where there is none, all are below
-pub none-large : (p : ℕ) (s : List ℕ) → length s ≤ firstLarge p s → AllBelow p s
+-- those before it are below
+pub large-before : (p : ℕ) (s : List ℕ) (k : ℕ) → k < firstLarge p s → word s k < p
 unfolding firstLarge
-none-large p [] h k l = omega arith
-none-large p (x ∷ xs) h zero l = head-below p x (length xs) (firstLarge p xs) (leb p x) refl h .0
-none-large p (x ∷ xs) h (suc k) l = none-large p xs (head-below p x (length xs) (firstLarge p xs) (leb p x) refl h .1) k (le-of-suc-le-suc l)
+large-before p [] k h = absurd (let z : ⊥ = omega arith in z)
+large-before p (x ∷ xs) zero h = head-below p x zero (firstLarge p xs) (leb p x) refl h .0
+large-before p (x ∷ xs) (suc k) h = large-before p xs k (head-below p x (suc k) (firstLarge p xs) (leb p x) refl h .1)
+
+-- where there is none, all are
+pub none-large : (p : ℕ) (s : List ℕ) → length s ≤ firstLarge p s → AllBelow p s
+none-large p s h k l = large-before p s k (omega arith)
 
 choose-le : (b : Bool) (n t : ℕ) → t ≤ n → choose b 0 (suc t) ≤ suc n
 choose-le true n t h = omega arith

@@ -27,7 +27,7 @@ use Rattle.numbers.specs.Words.{word, tabulate, allTo, all, firstLarge, outside
 use Rattle.numbers.specs.internal.Facts.{AllBelow, Rising}
 use Rattle.numbers.specs.Refusals.{Check, check, judge, refusal, modulusChecks, unreduced, degreeCheck, widthCheck}
 use Rattle.numbers.specs.declared.refusal.Verdict.the-variants.{Pass, Refuse}
-use Rattle.numbers.proofs.WordsLaws.{length-tabulate, word-tabulate, below-append, large-first, large-second, large-le}
+use Rattle.numbers.proofs.WordsLaws.{length-tabulate, word-tabulate, below-append, large-first, large-second, large-le, append-below}
 use Rattle.numbers.proofs.TestsLaws.{eqs, allTo-false, allTo-ext, rising-passes, rising-are}
 use Rattle.numbers.proofs.RefusalsLaws.{Modulus, modulus-pass, modulus-fine, after-pass, pass-parts, pass-check, take-check, skip-check, none-judged, neither, reduced, below-reduced, inside, within}
 use Rattle.numbers.specs.Limits.{largestModulus, largestDegree, largestWidth}
@@ -35,7 +35,6 @@ use Rattle.series.specs.Known.{KnownTo, knownTo, rowsKnown, unknownCheck}
 use Rattle.series.proofs.KnownLaws.{rows-known-test}
 use Rattle.rows.proofs.RowsLaws.{length-part, row-fits}
 use Rattle.rows.specs.Rows.{unit}
-use Rattle.columns.proofs.ColumnLaws.{append-below}
 use Rattle.layout.specs.Layout.{rowsAt}
 use Rattle.sheet.specs.Sheet.{Given, givenOf, wholeOf, given-polynomial}
 use Rattle.open.specs.Open.{openVerdict, sizeChecks, polynomialChecks, topChecks, listChecks, splitChecks}

@@ -19,9 +19,9 @@ use Rattle.algebra.specs.internal.Fp.{Fp, rem}
 use Rattle.algebra.proofs.BridgeLaws.{rem-zero}
 use Rattle.numbers.specs.Words.{word}
 use Rattle.numbers.specs.internal.Facts.{AllBelow}
-use Rattle.numbers.proofs.WordsLaws.{word-tabulate, from, from-is, drop-below, take-below}
+use Rattle.numbers.proofs.WordsLaws.{word-tabulate, from, from-is, drop-below, take-below, append-below}
 use Rattle.columns.specs.internal.Column.{hornerWord, hornerWords}
-use Rattle.columns.proofs.ColumnLaws.{horner-word-suc, horner-word-none, horner-words-at, horner-below, length-horner, putFrom, put-from, append-below}
+use Rattle.columns.proofs.ColumnLaws.{horner-word-suc, horner-word-none, horner-words-at, horner-below, length-horner, putFrom, put-from}
 use Rattle.columns.proofs.SolveLaws.{pol-div}
 use Rattle.powers.specs.internal.Powers.{overField, Divided, DividedOut}
 

@@ -14,9 +14,8 @@ use Rattle.numbers.specs.Words.{word, over}
 use Rattle.numbers.specs.Limits.{largestDegree, mostRows}
 use Rattle.numbers.specs.internal.Facts.{AllBelow}
 use Rattle.numbers.specs.internal.Limits.{modulusBound}
-use Rattle.numbers.proofs.WordsLaws.{length-over}
+use Rattle.numbers.proofs.WordsLaws.{length-over, append-below}
 use Rattle.series.proofs.CheckLaws.{one-below}
-use Rattle.columns.proofs.ColumnLaws.{append-below}
 use Rattle.modulo.specs.internal.Modulo.{ModulusOf}
 use Rattle.rootfinding.proofs.FoundLaws.{over-take}
 

@@ -8,12 +8,12 @@ use borrow.Author.Tests.{le-leb, lt-leb, lt-ltb, le-ltb}
 use lib.Dec.{leb}
 use lib.ListN.{length}
 use Rattle.numbers.specs.internal.Limits.{modulusBound}
-use Rattle.numbers.specs.Limits.{mostRows}
+use Rattle.numbers.specs.Limits.{mostRows, largestDegree, largestWidth}
 use Rattle.numbers.specs.Words.{over}
 use Rattle.numbers.specs.internal.Facts.{AllBelow}
 use Rattle.numbers.specs.Refusals.{Check, check, judge, refusal, inputChecks, roomCheck, Outcome, accepted, result, written}
 use Rattle.numbers.specs.declared.refusal.Verdict.the-variants.{Pass, Refuse}
-use Rattle.numbers.proofs.RefusalsLaws.{after-pass, take-check, skip-check, none-judged, operation-pass, few-words, answer-done}
+use Rattle.numbers.proofs.RefusalsLaws.{Modulus, after-pass, take-check, skip-check, none-judged, operation-pass, inputs-fine, few-words, answer-done}
 use Rattle.rows.specs.Rows.{rowsChecks, shiftChecks}
 
 -- what a pass says of two polynomials with the same number of rows
@@ -53,3 +53,20 @@ module _ (p D N : ℕ) (f : List ℕ) (c room : ℕ) (e : judge (inputChecks p N
 
   pub shift-passed : c < p → (D + 1) * N ≤ room → judge (shiftChecks p D N f c room) ≡ Pass
   shift-passed h l = past-number h ∙ skip-check space [] (le-ltb room ((D + 1) * N) l) ∙ none-judged
+
+-- so the shift accepts a polynomial of the right size, below p, in just its own room
+pub shift-fine : (p D N : ℕ) (f : List ℕ) (c : ℕ) → Modulus p → D ≤ largestDegree → 1 ≤ N → N ≤ largestWidth → length f ≡ (D + 1) * N → AllBelow p f → c < p
+    → judge (shiftChecks p D N f c ((D + 1) * N)) ≡ Pass
+shift-fine p D N f c modulus degree low high long below l =
+    shift-passed p D N f c ((D + 1) * N) (inputs-fine p N f (D + 1) [] 0 (D + 1) (record {
+      modulus = modulus;
+      f-high = omega arith;
+      g-high = omega arith;
+      high = omega arith;
+      width-low = low;
+      width-high = high;
+      f-long = long;
+      g-long = omega arith;
+      f-below = below;
+      g-below = λ k u. absurd (let z : ⊥ = omega arith in z);
+    })) l (omega arith)

@@ -1,6 +1,6 @@
 -- Laws of `monic`: Y^d and rows below it.
 -- Assumes nothing.
-use Prim.Native.Nat.{ℕ, suc, _≤_, _<_}
+use Prim.Native.Nat.{ℕ, zero, suc, _≤_, _<_}
 use native.Mathlib.Nat.{eq-or-lt-of-le, le-of-suc-le-suc, lt-of-not-le}
 use native.Mathlib.Decide.{decLe}
 use native.Mathlib.Omega.{arith}
@@ -8,6 +8,10 @@ use mathlib.Core.Path.{_≡_, refl, sym, _∙_, subst}
 use mathlib.Core.Logic.{⊎-elim}
 use borrow.Author.Tests.{lt-ltb, le-ltb, eq-eqb, ne-eqb}
 use Rattle.rows.specs.Rows.{unit, monic}
+
+pub unit-lt : (p t : ℕ) → 2 ≤ p → unit t < p
+unit-lt p zero two = two
+unit-lt p (suc t) two = omega arith
 
 pub monic-low : (d : ℕ) (a : ℕ → ℕ → ℕ) (j t : ℕ) → j < d → monic d a j t ≡ a j t
 unfolding monic

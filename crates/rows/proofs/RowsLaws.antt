@@ -4,7 +4,7 @@ use mathlib.Core.Path.{_≡_, refl, sym, ap, ap₂, subst, _∙_}
 use mathlib.Core.Logic.{⊎-elim}
 use mathlib.Core.List.{List, [], _∷_, _++_}
 use Prim.Native.Nat.{ℕ, zero, suc, _+_, _-_, _*_, _%_, _≤_, _<_, _/_}
-use native.Mathlib.Nat.{eq-or-lt-of-le, mod-lt, mul-le-mul, mul-zero, zero-mul, zero-mod, add-assoc, div-add-mod', div-lt-iff-lt-mul}
+use native.Mathlib.Nat.{eq-or-lt-of-le, mod-lt, mod-eq-of-lt, mul-le-mul, mul-zero, zero-mul, zero-mod, add-assoc, div-add-mod', div-lt-iff-lt-mul}
 use native.Mathlib.Numerals.{add-one}
 use native.Mathlib.Omega.{arith}
 use borrow.Author.Tests.{lt-ltb, le-ltb}
@@ -14,7 +14,7 @@ use Rattle.algebra.specs.Sums.{sumTo}
 use Rattle.algebra.proofs.SumsLaws.{sumTo-ext, sumTo-bound, sumTo-zeros, sumTo-append}
 use Rattle.numbers.specs.Words.{word, tabulate, over}
 use Rattle.numbers.specs.internal.Facts.{AllBelow}
-use Rattle.numbers.proofs.WordsLaws.{lt-or-ge, length-tabulate, word-tabulate, tabulate-ext, tabulate-below, Writing, writing-part, over-whole, from, length-from, word-from}
+use Rattle.numbers.proofs.WordsLaws.{lt-or-ge, length-tabulate, word-tabulate, tabulate-ext, tabulate-below, Writing, writing-part, over-whole, from, length-from, word-from, append-below}
 use Rattle.numbers.specs.internal.Limits.{modulusBound}
 use Rattle.numbers.specs.Limits.{mostRows, largestWidth}
 use Rattle.numbers.proofs.RefusalsLaws.{few-words}
@@ -97,16 +97,8 @@ table-ext (suc j) N a b h = rw (table-ext j N a b (λ i t l g. h i t (omega arit
 
 pub table-below : (p rows N : ℕ) (a : ℕ → ℕ → ℕ) → ((j t : ℕ) → j < rows → t < N → a j t < p) → AllBelow p (table rows N a)
 unfolding table
-table-below p zero N a b k h = omega arith
-table-below p (suc j) N a b k h =
-    ⊎-elim
-    (λ (l : k < length (table j N a)). rw (List·getD-append (table j N a) (tabulate N (a j)) 0 k l) (table-below p j N a (λ i t u g. b i t (omega arith) g) k l))
-    (λ (l : length (table j N a) ≤ k).
-    let q : length (table j N a) + (k - length (table j N a)) ≡ k = omega arith in
-    subst (λ (x : ℕ). word (table j N a ++ tabulate N (a j)) x < p) q
-    (rw (getD-append-add (table j N a) (tabulate N (a j)) (k - length (table j N a)) 0)
-    (tabulate-below p N (a j) (λ t g. b j t (omega arith) g) (k - length (table j N a)) (omega (arith, length-append (table j N a) (tabulate N (a j)))))))
-    (lt-or-ge k (length (table j N a)))
+table-below p zero N a b = λ k h. omega arith
+table-below p (suc j) N a b = append-below p (table j N a) (tabulate N (a j)) (table-below p j N a (λ i t u g. b i t (omega arith) g)) (tabulate-below p N (a j) (λ t g. b j t (omega arith) g))
 
 -- a table that is read back from its words
 tabulate-part : (s : List ℕ) (a n : ℕ) (f : ℕ → ℕ) → a + n ≤ length s → ((k : ℕ) → k < n → f k ≡ word s (a + k)) → tabulate n f ≡ take n (drop a s)
@@ -241,6 +233,12 @@ line-zero p c zero zero h = absurd (let z : ⊥ = omega arith in z)
 line-zero p c zero (suc j) h = refl
 line-zero p c (suc i) zero h = absurd (let z : ⊥ = omega arith in z)
 line-zero p c (suc i) (suc j) h = rw (line-zero p c i (suc j) (omega arith), line-zero p c i j (omega arith), mul-zero c) (zero-mod p)
+
+-- and is monic
+pub line-top : (p c i : ℕ) → 2 ≤ p → linePower p c i i ≡ 1
+unfolding linePower
+line-top p c zero two = refl
+line-top p c (suc i) two = rw (line-zero p c i (suc i) (omega arith), line-top p c i two) (ap (λ x. x % p) (let z : c * 0 + 1 ≡ 1 = omega arith in z) ∙ mod-eq-of-lt two)
 
 -- the list that `next_weights` had, before its first word was put to 0
 abbrev pub before : (s : List ℕ) (b : ℕ) → List ℕ

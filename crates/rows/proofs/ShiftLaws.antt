@@ -1,14 +1,16 @@
 -- The shift of row polynomials is the substitution of Y + c over the numbers below p, and so, in plain arithmetic: it keeps sums and products,
--- and the shift by p − c undoes it, word by word of the slices.
+-- and the shift by p − c undoes it, word by word of the slices. A column of zeros stays one, and a monic polynomial monic.
 -- Assumes nothing.
 use mathlib.Core.Path.{_≡_, sym, ap, ap₂, _∙_, fun-ext}
 use mathlib.Core.Logic.{⊎-elim}
 use mathlib.Core.List.{List}
 use Prim.Native.Nat.{ℕ, zero, suc, _+_, _-_, _*_, _%_, _≤_, _<_, Fin}
-use native.Mathlib.Nat.{mod-lt, mul-zero, zero-mod}
+use native.Mathlib.Nat.{mod-lt, mod-eq-of-lt, mul-zero, mul-one, zero-mul, zero-mod, zero-add}
+use native.Mathlib.Numerals.{add-one}
 use native.Mathlib.Omega.{arith}
 use lib.ListN.{length}
-use Rattle.algebra.proofs.SumsLaws.{sumTo-zero, sumTo-ext, sumTo-zeros}
+use Rattle.algebra.specs.Sums.{sumTo}
+use Rattle.algebra.proofs.SumsLaws.{sumTo-zero, sumTo-suc, sumTo-ext, sumTo-zeros}
 use Rattle.algebra.specs.internal.Ring.{CommRing}
 use Rattle.algebra.proofs.RingLaws.{neg-neg, pow-zero, pow-suc}
 use Rattle.algebra.specs.internal.Series.{Series}
@@ -21,8 +23,9 @@ use Rattle.algebra.proofs.FpLaws.{rem-add, rem-mul, rem-mod}
 use Rattle.algebra.proofs.BridgeLaws.{same-rem, rem-zero, rem-one, neg-rem, sum-rem}
 use Rattle.numbers.specs.internal.Facts.{AllBelow}
 use Rattle.numbers.proofs.WordsLaws.{lt-or-ge}
-use Rattle.rows.specs.Rows.{rowsOf, mul, rowProduct, linePower, shifted, rowShift}
-use Rattle.rows.proofs.RowsLaws.{rows-below, rows-past, rows-bound, word-table, table-ext, table-rows, line-zero}
+use Rattle.rows.specs.Rows.{rowsOf, mul, rowProduct, linePower, shifted, rowShift, unit, monic}
+use Rattle.rows.proofs.RowsLaws.{rows-below, rows-past, rows-bound, word-table, table-ext, table-rows, line-zero, line-top}
+use Rattle.rows.proofs.MonicLaws.{unit-lt, monic-low, monic-top, monic-above, by-place}
 use Rattle.rows.proofs.MulLaws.{mul-lt, mul-ext, mul-past, mul-rem, product-rows}
 
 -- a coefficient of a shift is reduced
@@ -40,6 +43,26 @@ pub shifted-past : (p rows c : ℕ) (f : ℕ → ℕ → ℕ) (j t : ℕ) → ro
 unfolding shifted
 shifted-past p rows c f j t h =
     ap (λ (x : ℕ). x % p) (sumTo-zeros rows _ (λ i l. ap (λ (x : ℕ). f i t * x) (line-zero p c i j (omega arith)) ∙ mul-zero (f i t))) ∙ zero-mod p
+
+-- a column of zeros stays one
+pub shifted-none : (p rows c : ℕ) (f : ℕ → ℕ → ℕ) (j t : ℕ) → ((i : ℕ) → i < rows → f i t ≡ 0) → shifted p rows c f j t ≡ 0
+unfolding shifted
+shifted-none p rows c f j t h = ap (λ (x : ℕ). x % p) (sumTo-zeros rows _ (λ i l. ap (λ (x : ℕ). x * linePower p c i j) (h i l) ∙ zero-mul _)) ∙ zero-mod p
+
+-- a monic polynomial stays monic
+pub shifted-top : (p c m : ℕ) (a : ℕ → ℕ → ℕ) (t : ℕ) → 2 ≤ p → shifted p (m + 1) c (monic m a) m t ≡ unit t
+unfolding shifted
+shifted-top p c m a t two =
+    let F : ℕ → ℕ = λ i. monic m a i t * linePower p c i m in
+    let low : sumTo m F ≡ 0 = sumTo-zeros m F (λ i l. ap (λ (x : ℕ). monic m a i t * x) (line-zero p c i m l) ∙ mul-zero _) in
+    let top : F m ≡ unit t = ap₂ _*_ (monic-top m a t) (line-top p c m two) ∙ mul-one (unit t) in
+    ap (λ (x : ℕ). x % p) (ap (λ (k : ℕ). sumTo k F) (add-one m) ∙ sumTo-suc m F ∙ ap₂ _+_ low top ∙ zero-add (unit t)) ∙ mod-eq-of-lt (unit-lt p t two)
+
+pub shifted-monic : (p c m : ℕ) (a : ℕ → ℕ → ℕ) → 2 ≤ p → (j t : ℕ) → monic m (shifted p (m + 1) c (monic m a)) j t ≡ shifted p (m + 1) c (monic m a) j t
+shifted-monic p c m a two j t =
+    let b = shifted p (m + 1) c (monic m a) in
+    by-place (λ j. monic m b j t ≡ b j t) m (λ j l. monic-low m b j t l) (monic-top m b t ∙ sym (shifted-top p c m a t two))
+    (λ j l. monic-above m b j t l ∙ sym (shifted-past p (m + 1) c (monic m a) j t (omega arith))) j
 
 module _ (p : ℕ) (pos : 1 ≤ p) where
   abbrev K : CommRing (Fin p)

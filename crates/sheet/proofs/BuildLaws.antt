@@ -1,11 +1,9 @@
 -- The content of a sheet, built from the rows of the factors; with it, a sheet for every k up to the least known length.
 --   built-good    with rows that are the factors to k terms the content is good
 --   solved-good   there is good content for every k from 1 to the least known length
---   line-top      (Y − c)^m is monic
 --   start-good    with one term factor i is (Y − c_i)^(m_i)
 -- Assumes nothing.
-use Prim.Native.Nat.{ℕ, zero, suc, _+_, _-_, _*_, _%_, _≤_, _<_}
-use native.Mathlib.Nat.{mod-eq-of-lt}
+use Prim.Native.Nat.{ℕ, zero, suc, _+_, _-_, _≤_, _<_}
 use native.Mathlib.Omega.{arith}
 use mathlib.Core.Path.{_≡_, refl, sym, _∙_, ap}
 use borrow.Author.Tests.{lt-ltb, ltb-true}
@@ -15,8 +13,8 @@ use Rattle.algebra.specs.Sums.{sumTo}
 use Rattle.algebra.proofs.SumsLaws.{sumTo-suc, sumTo-mono}
 use Rattle.numbers.specs.Words.{least}
 use Rattle.numbers.proofs.WordsLaws.{first-is, up-low, up-high, least-le, least-from}
-use Rattle.rows.specs.Rows.{linePower, monic}
-use Rattle.rows.proofs.RowsLaws.{line-lt, line-zero}
+use Rattle.rows.specs.Rows.{monic}
+use Rattle.rows.proofs.RowsLaws.{line-lt, line-zero, line-top}
 use Rattle.rows.proofs.MonicLaws.{monic-low, monic-top, monic-above, by-place}
 use Rattle.hensel.specs.Factors.{product, IsFactors}
 use Rattle.hensel.proofs.FactorsLaws.{product-ext, factors-ext}
@@ -75,12 +73,6 @@ module _ (p D N r : ℕ) (known root power : ℕ → ℕ) (f : ℕ → ℕ → �
   solved-good k low high =
       built-good k low high _ (solution-lt (h .prime) D N r f root power (h .splits) (h .width-low) (h .reduced) (h .top))
       (solution-is (h .prime) D N r f root power (h .splits) (h .width-low) (h .reduced) (h .top) k (omega (arith, least-le N known D)))
-
--- (Y − c)^m is monic
-pub line-top : (p c m : ℕ) → 1 < p → linePower p c m m ≡ 1
-unfolding linePower
-line-top p c zero two = refl
-line-top p c (suc m) two = rw (line-zero p c m (suc m) (omega arith), line-top p c m two) (ap (λ x. x % p) (let z : c * 0 + 1 ≡ 1 = omega arith in z) ∙ mod-eq-of-lt two)
 
 module _ (p D r : ℕ) (f : ℕ → ℕ → ℕ) (root power : ℕ → ℕ) (two : 1 < p) (h : Splits p D r f root power) where
   start-row : (i j t : ℕ) → t < 1 → monic (power i) (start p root power i) j t ≡ start p root power i j t

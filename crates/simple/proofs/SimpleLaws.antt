@@ -12,8 +12,8 @@
 --   simple-one       every call has exactly one outcome
 --   negate-ready, negated-roots   the factors' rows, as they stand in the sheet, and negated
 -- Assumes nothing.
-use Prim.Native.Nat.{ℕ, zero, suc, _+_, _-_, _*_, _≤_, _<_, _%_}
-use native.Mathlib.Nat.{add-zero, add-suc, mod-lt, mod-self, sub-zero}
+use Prim.Native.Nat.{ℕ, _+_, _-_, _*_, _≤_, _<_, _%_}
+use native.Mathlib.Nat.{eq-or-lt-of-le, mod-lt, mod-self, sub-zero}
 use native.Mathlib.Omega.{arith}
 use mathlib.Core.Path.{_≡_, refl, sym, _∙_, ap, ap₂, subst}
 use mathlib.Core.Logic.{_↔_, ⊎-elim}
@@ -23,6 +23,7 @@ use borrow.Author.Tests.{lt-ltb, le-ltb, ltb-true, ltb-false}
 use lib.Dec.{ltb}
 use lib.ListN.{length, length-drop}
 use lib.Seq.{getD-take, getD-drop, length-take-le}
+use Rattle.algebra.proofs.Chain.{rising-all}
 use Rattle.numbers.specs.Words.{word, firstWhere, over, part}
 use Rattle.numbers.specs.internal.Facts.{AllBelow}
 use Rattle.numbers.specs.Refusals.{judge, refusal, roomCheck}
@@ -94,13 +95,9 @@ multiple-same s u r roots powers =
     (lt-or-ge i (count s))
 
 -- 22 is given with the least root of power above 1, since the roots rise
-roots-rise : (s : List ℕ) → Sound s → (i n : ℕ) → i + n < count s → root s i ≤ root s (i + n)
-roots-rise s sound i zero l = omega (arith, ap (root s) (add-zero i))
-roots-rise s sound i (suc n) l =
-    omega (arith, roots-rise s sound i n (omega arith), sound .factors .rising (i + n) (omega arith), ap (root s) (add-suc i n))
-
 rise : (s : List ℕ) → Sound s → (i j : ℕ) → i ≤ j → j < count s → root s i ≤ root s j
-rise s sound i j h l = let e : i + (j - i) ≡ j = omega arith in omega (arith, roots-rise s sound i (j - i) (omega arith), ap (root s) e)
+rise s sound i j h l =
+    ⊎-elim (λ (e : i ≡ j). omega (arith, ap (root s) e)) (λ (u : i < j). omega (arith, rising-all (λ x. x) (count s) (root s) (sound .factors .rising) i j u l)) (eq-or-lt-of-le h)
 
 same-detail : {x y : ℕ} → Refuse (refusal 22 x) ≡ Refuse (refusal 22 y) → x ≡ y
 same-detail {x} {y} e = let z : refusal 22 x ≡ refusal 22 y = cc in ap (λ (r : Refusal). r .detail) z

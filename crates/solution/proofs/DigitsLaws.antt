@@ -17,10 +17,10 @@ use Rattle.algebra.proofs.FpLaws.{p-pos}
 use Rattle.numbers.specs.Words.{word, tabulate}
 use Rattle.numbers.specs.internal.Facts.{AllBelow}
 use Rattle.numbers.specs.Divisor.{inverseOf}
-use Rattle.numbers.proofs.WordsLaws.{length-tabulate, word-tabulate, from, from-is, length-from, from-below, take-below}
+use Rattle.numbers.proofs.WordsLaws.{length-tabulate, word-tabulate, from, from-is, length-from, from-below, take-below, append-below}
 use Rattle.series.proofs.QuotientLaws.{inverse-law}
 use Rattle.columns.specs.internal.Column.{hornerWords, digitWords, lineTimes}
-use Rattle.columns.proofs.ColumnLaws.{Sinking, sinking-store, sinking-all, putFrom, put-from, append-below, line-below, length-line, horner-below, length-horner, length-digit, digit-below}
+use Rattle.columns.proofs.ColumnLaws.{Sinking, sinking-store, sinking-all, putFrom, put-from, line-below, length-line, horner-below, length-horner, length-digit, digit-below}
 use Rattle.columns.proofs.SolveLaws.{pol-line, digit-divides}
 use Rattle.algebra.proofs.SolutionLaws.{lines-zero, lines-suc, newton-zero, newton-suc, newton-ext, digit-step, expand-step}
 use Rattle.solution.specs.internal.Table.{poly, plus, by, Expanded, Digit, Digits, beforeWord, nextWord}

@@ -22,9 +22,9 @@ use Rattle.algebra.proofs.BridgeLaws.{rem-zero, rem-one, neg-rem}
 use Rattle.numbers.specs.Words.{word, tabulate}
 use Rattle.numbers.specs.internal.Facts.{AllBelow}
 use Rattle.rows.proofs.RowsLaws.{by-row, row-fits}
-use Rattle.numbers.proofs.WordsLaws.{lt-or-ge, length-tabulate, word-tabulate, from, from-is, drop-below}
+use Rattle.numbers.proofs.WordsLaws.{lt-or-ge, length-tabulate, word-tabulate, from, from-is, drop-below, append-below}
 use Rattle.columns.specs.internal.Column.{firstOnly}
-use Rattle.columns.proofs.ColumnLaws.{append-below, putFrom}
+use Rattle.columns.proofs.ColumnLaws.{putFrom}
 use Rattle.algebra.proofs.SolutionLaws.{newton-ext, newton-zeros, mono-zero, mono-suc, mono-other, up-zero, up-suc, next-solves, next-low, next-high}
 use Rattle.numbers.specs.Limits.{mostRows}
 use Rattle.solution.proofs.DigitsLaws.{put-kept, put-drop, put-long, copied}

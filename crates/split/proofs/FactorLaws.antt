@@ -10,8 +10,8 @@ use lib.ListN.{length, take, drop, length-drop, length-append, List·getD-append
 use lib.Seq.{getD-drop, getD-take, length-take-le, drop-at}
 use Rattle.algebra.specs.Sums.{sumTo}
 use Rattle.algebra.proofs.SumsLaws.{sumTo-zero, sumTo-suc, sumTo-ext, sumTo-append, sumTo-mono, sumTo-count}
-use Rattle.algebra.specs.internal.Ring.{CommRing, prod, mul-one, one-mul, mul-assoc}
-use Rattle.algebra.proofs.RingLaws.{prod-zero, prod-suc}
+use Rattle.algebra.specs.internal.Ring.{CommRing, prod, mul-one}
+use Rattle.algebra.proofs.RingLaws.{prod-zero, prod-suc, prod-append}
 use Rattle.algebra.specs.internal.Series.{Series}
 use Rattle.algebra.proofs.SeriesLaws.{mul-agree, prod-agree, mul-at-zero}
 use Rattle.algebra.specs.internal.Poly.{Columns, lines}
@@ -34,14 +34,6 @@ use Rattle.solution.specs.internal.Table.{poly, capped, rowsFrom, Split}
 use Rattle.split.specs.internal.Found.{Roots, NodeReady, factorAt, Factored}
 use Rattle.solution.proofs.DigitsLaws.{put-kept, put-drop, put-long}
 use Rattle.solution.proofs.StepLaws.{capped-low, capped-top, capped-above}
-
-pub prod-append : {S : Type 0} (𝓢 : CommRing S) (n m : ℕ) (F : ℕ → S) → prod 𝓢 (n + m) F ≡ 𝓢 .mul (prod 𝓢 n F) (prod 𝓢 m (λ i. F (n + i)))
-prod-append 𝓢 zero m F =
-    ap₂ (prod 𝓢) (zero-addₙ m) (fun-ext (λ i. ap F (sym (zero-addₙ i)))) ∙ sym (ap (λ x. 𝓢 .mul x (prod 𝓢 m (λ i. F (zero + i)))) (prod-zero 𝓢 F) ∙ one-mul 𝓢 _)
-prod-append 𝓢 (suc n) m F =
-    ap (λ x. prod 𝓢 x F) (let e : suc n + m ≡ suc (n + m) = omega arith in e) ∙ prod-suc 𝓢 (n + m) F ∙ ap (𝓢 .mul (F zero)) (prod-append 𝓢 n m (λ i. F (suc i)))
-    ∙ sym (mul-assoc 𝓢 _ _ _)
-    ∙ ap₂ (𝓢 .mul) (sym (prod-suc 𝓢 n F)) (ap (prod 𝓢 m) (fun-ext (λ i. ap F (let e : suc (n + i) ≡ suc n + i = omega arith in e))))
 
 capped-monic : (d : ℕ) (a : ℕ → ℕ → ℕ) (t j : ℕ) → capped d 1 a j t ≡ monic d a j t
 capped-monic d a t = by-place (λ j. capped d 1 a j t ≡ monic d a j t) d (λ j l. capped-low d 1 a j t l ∙ sym (monic-low d a j t l))

@@ -12,7 +12,7 @@ use lib.ListN.{length, take, drop}
 use Rattle.algebra.specs.Sums.{sumTo}
 use Rattle.algebra.proofs.SumsLaws.{sumTo-zero, sumTo-suc, sumTo-mono}
 use Rattle.algebra.specs.internal.Ring.{prod, mul-one}
-use Rattle.algebra.proofs.RingLaws.{prod-zero, prod-suc, prod-ext}
+use Rattle.algebra.proofs.RingLaws.{prod-zero, prod-suc, prod-ext, prod-append}
 use Rattle.algebra.specs.internal.Series.{Series}
 use Rattle.algebra.proofs.SeriesLaws.{prod-at-zero}
 use Rattle.algebra.specs.internal.Poly.{linPow, lines}
@@ -22,8 +22,8 @@ use Rattle.algebra.proofs.BridgeLaws.{same-rem, rem-one}
 use Rattle.numbers.specs.Words.{word, tabulate}
 use Rattle.numbers.specs.internal.Facts.{AllBelow}
 use Rattle.numbers.proofs.WordsLaws.{lt-or-ge, length-tabulate, word-tabulate, true-false}
-use Rattle.rows.specs.Rows.{unit, monic}
-use Rattle.rows.proofs.MonicLaws.{monic-low, monic-top, monic-ext, by-place}
+use Rattle.rows.specs.Rows.{monic}
+use Rattle.rows.proofs.MonicLaws.{unit-lt, monic-low, monic-top, monic-ext, by-place}
 use Rattle.rows.proofs.RowsLaws.{by-row, row-fits}
 use Rattle.hensel.specs.Factors.{rootPower, flat, split}
 use Rattle.hensel.proofs.FactorsLaws.{product-rem, product-lt, factors-ext}
@@ -34,7 +34,6 @@ use Rattle.columns.specs.internal.Column.{ColumnsSet}
 use Rattle.columns.proofs.ColumnLaws.{length-lent, put, put-long, put-before, put-in}
 use Rattle.solution.specs.internal.Table.{poly, rowsFrom, Lines}
 use Rattle.split.specs.internal.Found.{Roots, NodeReady, Factored, Spread, RootsListed, SplitsAtZero, Splitting, FactorsTo, Found}
-use Rattle.split.proofs.FactorLaws.{prod-append}
 
 module _ (roots powers c : List ℕ) (sp : Spread roots powers (length powers) c) (n : length c ≡ sumTo (length powers) (word powers)) (some : (i : ℕ) → i < length powers → 1 ≤ word powers i)
     (rising : (i : ℕ) → suc i < length powers → word roots i < word roots (suc i)) where
@@ -124,12 +123,8 @@ module _ (p N w : ℕ) (roots powers s : List ℕ) (h : Splitting p N w roots po
       let two = h .listed .prime .two-le in
       by-place (λ j. j ≤ D → monic D (rowsFrom 0 N s) j t < p) D
       (λ j u _. subst (λ v. v < p) (sym (monic-low D (rowsFrom 0 N s) j t u ∙ ap (λ v. word s (v * N + t)) (zero-addₙ j))) (h .listed .below (j * N + t) (let z = row-fits j D N u in let e = h .listed .long in omega arith)))
-      (λ _. subst (λ v. v < p) (sym (monic-top D (rowsFrom 0 N s) t)) (unit-lt t two))
+      (λ _. subst (λ v. v < p) (sym (monic-top D (rowsFrom 0 N s) t)) (unit-lt p t two))
       (λ j u v. absurd (let z : ⊥ = omega arith in z)) j l
-    where
-      unit-lt : (t : ℕ) → 2 ≤ p → unit t < p
-      unit-lt zero two = two
-      unit-lt (suc t) two = omega arith
 
   pub factors-done : (new : List ℕ) → ((j : ℕ) → j < D → (t : ℕ) → w ≤ t → t < N → word s (j * N + t) ≡ 0) → Factored p N w powers c s new → FactorsTo p N w roots powers s new
   factors-done new none g = record {

@@ -15,7 +15,7 @@ use Rattle.series.specs.Known.{knownTo, rowsKnown}
 use Rattle.series.specs.Series.{sums, productColumn, quotientColumn, quotient}
 use Rattle.series.specs.Series as series
 use Rattle.series.specs.Quotient.{quotientWords}
-use Rattle.rows.specs.Rows.{rowsOf, rowsBelow, table, mul, linePower, monic}
+use Rattle.rows.specs.Rows.{rowsOf, rowsBelow, table, mul, linePower, shifted, rowShift, monic}
 use Rattle.pair.specs.Pair.{orderOf}
 use Rattle.pair.specs.Test.{productTest, pairTest}
 use Rattle.pair.specs.Paired.{held}
@@ -92,5 +92,5 @@ unfolding scan step kindOf finish
 unread-none = unread _ refl
 
 pub starred : Starred
-unfolding table topRow powerOf sumValue sumHigh powersHigh sumDepth judge leastDivisor inverseOf firstWhere firstNonzero firstLarge allTo all sumTo rowsOf mul monic orderOf rowsBelow productTest pairTest held linePower product primeTest factorsTest headerTest bodyTest soundTest each choices find splitsTest powersOf needed openVerdict extendVerdict number isWide fieldsFrom fieldSize field jobGiven listVerdict listingText headLine rootLine rowLine rowLines factorText joinTo tabulate least knownTo rowsKnown sums productColumn series.product quotientColumn quotient quotientWords digits digitsWithin rowName rootsText signedText numberText moreNumbers seriesPower valueAt firstMultiple simpleVerdict value allWhere findVerdict isEntry correctVerdict callFits callsTo replayVerdict countAnswer countAnswers countEnd lists count subsets counted
-starred = (refl, refl, refl, refl, refl, refl, refl, refl, refl, refl, refl, refl, refl, refl, refl, refl, refl, refl, refl, refl, refl, refl, refl, refl, refl, refl, refl, largest-prime, largest-composite, out-of-range, refl, refl, refl, refl, refl, refl, refl, refl, refl, refl, refl, refl, refl, refl, refl, refl, refl, refl, refl, refl, refl, refl, refl, refl, refl, refl, refl, refl, refl, refl, refl, refl, refl, refl, refl, refl, refl, refl, refl, refl, refl, refl, refl, refl, refl, refl, refl, refl, refl, refl, refl, refl, refl, refl, refl, refl, refl, refl, reads-typed, refl, refl, refl, refl, reads-minus, refl, reads-zero, refl, unread-blank, unread-sign, unread-chain, unread-power, unread-digits, unread-none, refl, refl, refl, refl, refl, refl, refl, refl, refl, refl, refl, refl, refl, refl, refl, refl)
+unfolding table topRow powerOf sumValue sumHigh powersHigh sumDepth judge leastDivisor inverseOf firstWhere firstNonzero firstLarge allTo all sumTo rowsOf mul monic orderOf rowsBelow productTest pairTest held linePower shifted rowShift product primeTest factorsTest headerTest bodyTest soundTest each choices find splitsTest powersOf needed openVerdict extendVerdict number isWide fieldsFrom fieldSize field jobGiven listVerdict listingText headLine rootLine rowLine rowLines factorText joinTo tabulate least knownTo rowsKnown sums productColumn series.product quotientColumn quotient quotientWords digits digitsWithin rowName rootsText signedText numberText moreNumbers seriesPower valueAt firstMultiple simpleVerdict value allWhere findVerdict isEntry correctVerdict callFits callsTo replayVerdict countAnswer countAnswers countEnd lists count subsets counted
+starred = (refl, refl, refl, refl, refl, refl, refl, refl, refl, refl, refl, refl, refl, refl, refl, refl, refl, refl, refl, refl, refl, refl, refl, refl, refl, refl, refl, largest-prime, largest-composite, out-of-range, refl, refl, refl, refl, refl, refl, refl, refl, refl, refl, refl, refl, refl, refl, refl, refl, refl, refl, refl, refl, refl, refl, refl, refl, refl, refl, refl, refl, refl, refl, refl, refl, refl, refl, refl, refl, refl, refl, refl, refl, refl, refl, refl, refl, refl, refl, refl, refl, refl, refl, refl, refl, refl, refl, refl, refl, refl, refl, reads-typed, refl, refl, refl, refl, reads-minus, refl, reads-zero, refl, unread-blank, unread-sign, unread-chain, unread-power, unread-digits, unread-none, refl, refl, refl, refl, refl, refl, refl, refl, refl, refl, refl, refl, refl, refl, refl, refl, refl, refl, refl, refl, refl, refl, refl, refl, refl)

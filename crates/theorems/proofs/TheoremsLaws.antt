@@ -14,6 +14,7 @@ use Rattle.numbers.specs.Refusals.{judge, operationChecks, inputChecks}
 use Rattle.numbers.specs.One.{TheOne}
 use Rattle.numbers.specs.declared.refusal.Verdict.the-variants.{Pass}
 use Rattle.numbers.proofs.WordsLaws.{word-tabulate, tabulate-ext, least-at, least-there}
+use Rattle.numbers.proofs.TestsLaws.{rising-are}
 use Rattle.numbers.proofs.ListedLaws.{where-listed}
 use Rattle.numbers.proofs.RefusalsLaws.{operation-pass, inputs-pass, pass-parts, pass-check, reduced, below-reduced}
 use Rattle.series.specs.Series.{IsSeries, inverseChecks, productColumn, product, quotient}
@@ -43,6 +44,8 @@ use Rattle.calls.proofs.Demand3Laws.{demand3, calls-same}
 use Rattle.calls.proofs.CorrectedLaws.{correct-afresh}
 use Rattle.calls.proofs.OneLaws.{run-one, count-largest, replayed-one}
 use Rattle.calls.proofs.FillingLaws.{filled-opens, filled-same, filled-own, filled-apart}
+use Rattle.origin.proofs.TurnLaws.{moved-one}
+use Rattle.origin.proofs.OriginLaws.{origin}
 use Rattle.counts.proofs.CountsLaws.{counts-formula, counts-total, counts-find}
 use Rattle.job.specs.Limits.{jobRoom}
 use Rattle.job.proofs.JobLaws.{narrow-reads}
@@ -51,7 +54,7 @@ use Rattle.read.proofs.OutcomeLaws.{read-one}
 use Rattle.typed.proofs.OrderLaws.{one-order}
 use Rattle.typed.proofs.KeyLaws.{one-key, keyed-only, key-cut}
 use Rattle.listing.proofs.ListingLaws.{one-listing, listed-only, listing-cut}
-use Rattle.theorems.specs.Theorems.{PairTheorems, SheetTheorems, FindTheorems, RootTheorems, CountTheorems, TypedTheorems, CallTheorems, KnownTheorems, RowTheorems, Theorems}
+use Rattle.theorems.specs.Theorems.{PairTheorems, SheetTheorems, FindTheorems, RootTheorems, CountTheorems, TypedTheorems, CallTheorems, OriginTheorems, KnownTheorems, RowTheorems, Theorems}
 
 pair-theorems : PairTheorems
 pair-theorems = record {
@@ -117,6 +120,9 @@ call-theorems = record {
   listing-cut = λ profile job text h x. listing-cut profile job text jobRoom (omega arith) h x;
 }
 
+origin-theorems : OriginTheorems
+origin-theorems = record { moved-one = λ p c roots l up low. moved-one p c l roots (rising-are roots up) (reduced p roots low); origin = origin }
+
 known-theorems : KnownTheorems
 known-theorems = record {
   known-test = known-test;
@@ -169,4 +175,4 @@ row-theorems = record {
 }
 
 pub theorems : Theorems
-theorems = (pair-theorems, sheet-theorems, find-theorems, root-theorems, count-theorems, typed-theorems, call-theorems, known-theorems, row-theorems)
+theorems = (pair-theorems, sheet-theorems, find-theorems, root-theorems, count-theorems, typed-theorems, call-theorems, origin-theorems, known-theorems, row-theorems)

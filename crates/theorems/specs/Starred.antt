@@ -1,4 +1,4 @@
--- The starred examples of document 01 with the moduli and the wide file of F-2, the quotients of F-5, the lengths of F-9, the roots of F-3, the correction of F-6, the typed texts of F-1 and the series of F-10, as one list: closed terms of the definitions that
+-- The starred examples of document 01 with the moduli and the wide file of F-2, the quotients of F-5, the lengths of F-9, the roots of F-3, the correction of F-6, the typed texts of F-1, the series of F-10 and the variants of F-11, as one list: closed terms of the definitions that
 -- the contracts cite. `starred` in proofs/StarredLaws is its proof: by evaluation, but for the moduli near 2^24, where laws say how little has to be
 -- evaluated.
 --   typed, minus-square, zero-power   the formulas (Y^2-X)*(Y+3) - 2*X*Y, -Y^2 and 0^0
@@ -15,6 +15,7 @@ use Rattle.numbers.specs.Refusals.{judge, refusal, accepted, refused, modulusCh
 use Rattle.numbers.specs.declared.refusal.Verdict.the-variants.{Pass, Refuse}
 use Rattle.series.specs.Series.{knownChecks, sums, product}
 use Rattle.series.specs.Quotient.{leastPower, quotientChecks, quotientWords}
+use Rattle.rows.specs.Rows.{rowShift}
 use Rattle.pair.specs.Pair.{order}
 use Rattle.pair.specs.Paired.{pairChecks}
 use Rattle.pair.specs.Test.{pairTest}
@@ -26,6 +27,7 @@ use Rattle.extend.specs.Extend.{extendVerdict}
 use Rattle.correct.specs.Correct.{correctVerdict, corrected}
 use Rattle.calls.specs.Calls.{counting, countAnswers, countEnd}
 use Rattle.calls.specs.Replay.{callsTo, replayVerdict}
+use Rattle.origin.specs.Origin.{cut, variant}
 use Rattle.counts.specs.Counts.{subsets, countWords, countsChecks}
 use Rattle.formula.specs.Formula.{plus, minus, none, sign, number, letterX, letterY, bracket, plain, raised, one, times, Sum, first, more, reads, unreadable}
 use Rattle.formula.specs.Grammar.{Derives}
@@ -54,6 +56,14 @@ corrected-job = wholeOf 7 2 3 (6 ∷ 5 ∷ 0 ∷ 0 ∷ 0 ∷ 0 ∷ 1 ∷ 0 ∷ 0
 
 abbrev corrected-sheet : List ℕ
 corrected-sheet = 7 ∷ 2 ∷ 3 ∷ 3 ∷ 2 ∷ 13 ∷ 17 ∷ 26 ∷ 32 ∷ 32 ∷ 3 ∷ 3 ∷ 3 ∷ 1 ∷ 1 ∷ 6 ∷ 1 ∷ 6 ∷ 5 ∷ 0 ∷ 0 ∷ 0 ∷ 0 ∷ 1 ∷ 0 ∷ 0 ∷ 6 ∷ 6 ∷ 4 ∷ 1 ∷ 1 ∷ 3 ∷ []
+
+-- Y² + 4Y + 3 − X over 7: the job with Y + 2 for Y, whose roots are 4 and 6; its sheet with three terms
+abbrev variant-sheet : List ℕ
+variant-sheet = 7 ∷ 2 ∷ 3 ∷ 3 ∷ 2 ∷ 13 ∷ 17 ∷ 26 ∷ 32 ∷ 32 ∷ 3 ∷ 3 ∷ 3 ∷ 4 ∷ 1 ∷ 6 ∷ 1 ∷ 3 ∷ 6 ∷ 0 ∷ 4 ∷ 0 ∷ 0 ∷ 1 ∷ 0 ∷ 0 ∷ 3 ∷ 4 ∷ 6 ∷ 1 ∷ 3 ∷ 1 ∷ []
+
+-- Y² + X²Y − 1 over 7, row 0 known to one term
+abbrev short : Given
+short = givenOf 7 2 3 (6 ∷ 0 ∷ 0 ∷ 0 ∷ 0 ∷ 1 ∷ 1 ∷ 0 ∷ 0 ∷ []) (1 ∷ 3 ∷ []) (1 ∷ 6 ∷ [])
 
 abbrev pub typed : Sum
 typed =
@@ -281,3 +291,15 @@ Starred =
     × (signedOf 16777213 8388606 ≡ pos 8388606)
     × (signedOf 16777213 8388607 ≡ negsuc 8388605)
     × (signedOf 16777213 16777212 ≡ negsuc 0)
+    -- the job with Y + 2 for Y: its roots 1 and 6 become 6 and 4, in order 4 and 6, and its factors Y + 1 + 3X + X² and Y + 3 + 4X + 6X²
+    × (rowShift 7 2 3 job-rows 2 ≡ 3 ∷ 6 ∷ 0 ∷ 4 ∷ 0 ∷ 0 ∷ 1 ∷ 0 ∷ 0 ∷ [])
+    × (openVerdict (variant job 2 (4 ∷ 6 ∷ [])) 32 ≡ Pass)
+    × (soundTest variant-sheet ≡ true)
+    × (openVerdict (variant job 2 (6 ∷ 4 ∷ [])) 32 ≡ Refuse (refusal 8 0))
+    -- the factor of root 6 is shifted with its leading 1; the row alone would stay as it is
+    × (rowShift 7 1 3 (1 ∷ 4 ∷ 6 ∷ 1 ∷ 0 ∷ 0 ∷ []) 2 ≡ 3 ∷ 4 ∷ 6 ∷ 1 ∷ 0 ∷ 0 ∷ [])
+    × (rowShift 7 0 3 (1 ∷ 4 ∷ 6 ∷ []) 2 ≡ 1 ∷ 4 ∷ 6 ∷ [])
+    -- where lengths differ, the shift brings words into row 0 that are not known there: 21, unless f is cut first
+    × (openVerdict short 32 ≡ Pass)
+    × (openVerdict (variant short 2 (4 ∷ 6 ∷ [])) 32 ≡ Refuse (refusal 21 0))
+    × (openVerdict (variant (cut short) 2 (4 ∷ 6 ∷ [])) 32 ≡ Pass)

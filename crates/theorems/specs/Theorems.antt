@@ -1,5 +1,5 @@
 -- The end theorems, in a row: what is promised of the calls, each with one plain sentence. `theorems` in proofs/TheoremsLaws proves them all.
---   PairTheorems, SheetTheorems, FindTheorems, RootTheorems, CountTheorems, TypedTheorems, CallTheorems, KnownTheorems, RowTheorems, Theorems   the theorems, and all of them
+--   PairTheorems, SheetTheorems, FindTheorems, RootTheorems, CountTheorems, TypedTheorems, CallTheorems, OriginTheorems, KnownTheorems, RowTheorems, Theorems   the theorems, and all of them
 -- Assumes nothing.
 use Prim.Native.Nat.{ℕ, suc, _+_, _-_, _*_, _^_, _%_, _≤_, _<_}
 use mathlib.Core.Path.{_≡_}
@@ -35,6 +35,7 @@ use Rattle.calls.specs.Calls.{Call, Run, Lendable, counting, countAnswers, coun
 use Rattle.calls.specs.Afresh.{Afresh}
 use Rattle.calls.specs.Replay.{Replayed}
 use Rattle.calls.specs.Filling.{filled, Fills, SameFilled, OwnFilled, ApartFilled}
+use Rattle.origin.specs.Origin.{IsMoved, Origin}
 use Rattle.counts.specs.Counts.{subsets, inY, splits, counted, countsChecks}
 use Rattle.formula.specs.Grammar.{Derives}
 use Rattle.read.specs.Read.{ReadOf}
@@ -154,6 +155,14 @@ pub record CallTheorems : Type 0 where
   -- Of a longer file the programs read the first `jobRoom` bytes, and these come to the same text.
   pub listing-cut : (profile : Profile) (job text : List ℕ) → jobRoom ≤ length job → IsListing profile (take jobRoom job) text → IsListing profile job text
 
+-- Moving the origin: Y + c for Y.
+pub record OriginTheorems : Type 0 where
+  -- Exactly one list has the roots less c modulo p, in rising order ..
+  pub moved-one : (p c : ℕ) (roots : List ℕ) → c < p → rising roots ≡ true → unreduced p roots ≡ false → One (IsMoved p c roots)
+  -- .. and with it, for each f that open accepts and each c below p: f is cut to its least known length; the shift by c accepts it, and open what the shift
+  -- writes, in the room that f needs; and worked to as many terms as f, the variant has the factors of f, each shifted by c, with their powers.
+  pub origin : (g : Given) → openVerdict g (needed g) ≡ Pass → (c : ℕ) → c < g .p → (l : List ℕ) → IsMoved (g .p) c (g .roots) l → Origin g c l
+
 -- What is known to fewer terms than N.
 pub record KnownTheorems : Type 0 where
   -- The test behind refusal 21 is the condition that a sound sheet's rows keep.
@@ -200,4 +209,4 @@ pub record RowTheorems : Type 0 where
       → rowShift p (D₁ + D₂) N (rowProduct p D₁ D₂ N f g) c ≡ rowProduct p D₁ D₂ N (rowShift p D₁ N f c) (rowShift p D₂ N g c)
 
 abbrev pub Theorems : Type 0
-Theorems = PairTheorems × SheetTheorems × FindTheorems × RootTheorems × CountTheorems × TypedTheorems × CallTheorems × KnownTheorems × RowTheorems
+Theorems = PairTheorems × SheetTheorems × FindTheorems × RootTheorems × CountTheorems × TypedTheorems × CallTheorems × OriginTheorems × KnownTheorems × RowTheorems

@@ -1,0 +1,3 @@
+pub mod TurnLaws
+pub mod WholeLaws
+pub mod OriginLaws
