@@ -83,6 +83,7 @@ module _ {R : Type 0} (𝓡 : CommRing R) where
   pow-one (suc m) = pow-suc 𝟙 m ∙ one-mul 𝓡 (pow 𝓡 𝟙 m) ∙ pow-one m
 
   pub pow-none : (m : ℕ) → 0 < m → pow 𝓡 𝟘 m ≡ 𝟘
+  pow-none zero l = elim l [ ]
   pow-none (suc m) l = pow-suc 𝟘 m ∙ zero-mul 𝓡 (pow 𝓡 𝟘 m)
 
   pub pow-zero-mul : (a b : R) → pow 𝓡 a zero * b ≡ b

@@ -1,4 +1,6 @@
 // Lists of calls on one sheet, extends and corrections: what several goes leave is what demand 3 says.
+#![tactic(auto)]
+
 ghost use Rattle.std.specs.Prelude.{◌≡◌, ℕ, ◌+◌, ◌*◌, ◌≤◌, ◌<◌, length, set};
 ghost use Rattle.numbers.specs.Words.{low_word, all_to};
 ghost use Rattle.numbers.specs.Refusals.{outcome};

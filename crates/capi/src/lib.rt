@@ -1,4 +1,6 @@
 // The engine for C and Rust: every public operation under a plain name. A slice is a pointer and a count; the result is the outcome in 64 bits.
+#![tactic(auto)]
+
 ghost use Rattle.std.specs.Prelude.{◌≡◌, cond, [], ◌∷◌, ◌+◌, ◌-◌, ◌*◌, length};
 ghost use Rattle.numbers.specs.Words.{over, low_word};
 ghost use Rattle.numbers.specs.Refusals.{judge, outcome, refused, outcome_after, written, Leaves};

@@ -1,6 +1,8 @@
 // Columns of rows: loaded, stored, gathered, set; rows made wider or narrower; and one digit of a column, E = q · A + (Y − c) · B, by Horner's scheme: no derivative, no gcd, and
 // nothing is divided by but A(c). These trust their caller: they have a `requires`, and are for the crates of this repository. All are proved for every
 // modulus below 2^24.
+#![tactic(auto)]
+
 ghost use Rattle.std.specs.Prelude.{◌≡◌, ◌+◌, ◌-◌, ◌*◌, ◌%◌, ◌≤◌, ◌<◌, length};
 ghost use Rattle.algebra.specs.Prime.{Prime};
 ghost use Rattle.numbers.specs.Divisor.{inverse_of};

@@ -1,4 +1,6 @@
 // Correcting one entry of a sheet's polynomial: the entry is set, and where the terms reach its column the factors are worked out anew.
+#![tactic(auto)]
+
 ghost use Rattle.std.specs.Prelude.{◌≡◌, ◌*◌, ◌≤◌, length};
 ghost use Rattle.numbers.specs.Refusals.{outcome};
 ghost use Rattle.numbers.specs.declared.refusal.Verdict.TheVariants.{Pass};

@@ -1,5 +1,7 @@
 // How often a monic polynomial over F_p splits into lines Y − c, by the number of its distinct roots. What is counted are all p^D polynomials; the words
 // are had by formula: r roots are one of C(p, r) sets, and their powers one of C(D − 1, r − 1) lists with the sum D.
+#![tactic(auto)]
+
 ghost use Rattle.std.specs.Prelude.{◌≡◌, ◌+◌, ◌^◌, min, ◌≤◌, ◌<◌, length};
 ghost use Rattle.numbers.specs.Words.{over};
 ghost use Rattle.numbers.specs.Refusals.{judge, outcome, outcome_after, written};

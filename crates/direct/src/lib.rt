@@ -1,5 +1,7 @@
 // The columns of a split along rows. These trust their caller: they have a `requires`, and are for the crates of this repository. All are proved for every
 // modulus below 2^24.
+#![tactic(auto)]
+
 ghost use Rattle.std.specs.Prelude.{◌≡◌, ◌+◌, ◌*◌, ◌≤◌, ◌<◌, length};
 ghost use Rattle.numbers.specs.Words.{tabulate};
 ghost use Rattle.numbers.specs.internal.Facts.{AllBelow};

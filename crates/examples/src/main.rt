@@ -1,5 +1,7 @@
 // Examples of document 01 and neighbours of theirs that are not proved as theorems: each line of the output is one call and its outcome,
 // held to the stored output, which a second program computed.
+#![tactic(auto)]
+
 ghost use Rattle.std.specs.Prelude.{◌≡◌, ◌+◌, ◌*◌, ◌≤◌, length};
 ghost use Rattle.numbers.specs.Words.{part, over};
 ghost use Rattle.numbers.specs.Refusals.{judge, outcome, outcome_after, written};

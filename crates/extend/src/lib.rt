@@ -1,5 +1,7 @@
 // Extending a sheet: its factors to more terms. They are worked out once, to the terms wanted: below the terms there they are compared with those
 // stored, and then all are stored.
+#![tactic(auto)]
+
 ghost use Rattle.std.specs.Prelude.{◌≡◌, ◌*◌, ◌≤◌, length};
 ghost use Rattle.numbers.specs.Refusals.{outcome};
 ghost use Rattle.numbers.specs.declared.refusal.Verdict.TheVariants.{Pass};

@@ -1,4 +1,6 @@
 // Formulas: what typed text stands for, and whether a text can be read.
+#![tactic(auto)]
+
 ghost use Rattle.std.specs.Prelude.{◌≡◌};
 ghost use Rattle.formula.specs.internal.Scan.{kind_of, kind_at};
 ghost use Rattle.formula.specs.internal.Survey.{survey_at};

@@ -1,5 +1,7 @@
 // The test of what stands in a sheet before the factors' rows, stage after stage: a stage reads only words whose place the stages before it have found to be
 // there.
+#![tactic(auto)]
+
 ghost use Rattle.std.specs.Prelude.{◌+◌, ◌*◌, ◌≤◌, length};
 ghost use Rattle.numbers.specs.internal.Facts.{Decides};
 ghost use Rattle.numbers.specs.Limits.{largest_degree};

@@ -1,5 +1,7 @@
 // Reading a job file: its fields have two bytes each, or, in a wide file, four. But for `check_job`, these trust their caller: they have a `requires`, and are for
 // the crates of this repository.
+#![tactic(auto)]
+
 ghost use Rattle.std.specs.Prelude.{◌≡◌, ◌||◌, ◌+◌, ◌*◌, ◌≤◌, ◌<◌, ltb, length};
 ghost use Rattle.numbers.specs.Refusals.{judge};
 ghost use Rattle.job.specs.Limits.{most_degree, most_width, head_fields};

@@ -1,4 +1,6 @@
 // Joining two sheets: the sheet of the product of their polynomials, which is opened with the roots of both and worked to as many terms as both have.
+#![tactic(auto)]
+
 ghost use Rattle.std.specs.Prelude.{◌≡◌, ◌+◌, ◌*◌, ◌≤◌, ltb, leb, length, take};
 ghost use Rattle.numbers.specs.Words.{choose};
 ghost use Rattle.numbers.specs.Refusals.{outcome};

@@ -1,4 +1,6 @@
 // Reads typed input from standard input, a line `MODULUS TERMS` and a polynomial, and prints its answer key, or the line of its refusal.
+#![tactic(auto)]
+
 ghost use Rattle.std.specs.Prelude.{◌≤◌, length};
 ghost use Rattle.numbers.specs.Refusals.{accepted};
 ghost use Rattle.text.specs.Limits.{text_room};

@@ -1,5 +1,7 @@
 // Where the words of a sheet stand: the one place of the code that knows. Header words: 0 p, 1 D, 2 N, 3 k, 4 r, 5 to 7 offsets, 8 and 9 total, 10 the least
 // of the known lengths, which follow. These trust their caller: they have a `requires`, and are for the crates of this repository.
+#![tactic(auto)]
+
 ghost use Rattle.std.specs.Prelude.{◌≡◌, ℕ, ◌+◌, ◌*◌, ◌≤◌, ◌<◌, length, set};
 ghost use Rattle.algebra.specs.Sums.{sum_to};
 ghost use Rattle.numbers.specs.Words.{part};

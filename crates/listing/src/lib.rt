@@ -1,4 +1,6 @@
 // Job files in, listings out, on lent buffers.
+#![tactic(auto)]
+
 ghost use Rattle.std.specs.Prelude.{◌≡◌, ◌≤◌, length};
 ghost use Rattle.numbers.specs.Refusals.{judge, outcome};
 ghost use Rattle.numbers.specs.declared.refusal.Verdict.TheVariants.{Pass};

@@ -1,5 +1,7 @@
 // Arithmetic modulo a monic polynomial f of degree d over F_p, and a test whether f splits: f has d + 1 words, remainders have d. These trust their caller: they
 // have a `requires`, and are for the crates of this repository. All are proved for every modulus below 2^24.
+#![tactic(auto)]
+
 ghost use Rattle.std.specs.Prelude.{◌≡◌, false, ◌+◌, ◌*◌, ◌≤◌, ◌<◌, length};
 ghost use Rattle.algebra.specs.Prime.{Prime};
 ghost use Rattle.numbers.specs.Limits.{largest_degree};

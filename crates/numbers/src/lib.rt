@@ -1,4 +1,6 @@
 // Numbers modulo a prime, and the refusals by which every operation of the engine judges its input.
+#![tactic(auto)]
+
 pub mod limits; // how large a modulus, a degree and a series can be
 pub mod refusal; // the refusal, and the answers that carry it
 mod primes; // the table in which divisors are searched

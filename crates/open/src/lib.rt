@@ -1,4 +1,6 @@
 // Opening a sheet: from a polynomial to a sheet with one term, with its roots at X = 0 given, or found.
+#![tactic(auto)]
+
 ghost use Rattle.std.specs.Prelude.{[]};
 ghost use Rattle.numbers.specs.Refusals.{outcome};
 ghost use Rattle.sheet.specs.Sheet.{given_of};

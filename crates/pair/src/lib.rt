@@ -1,5 +1,7 @@
 // The Weierstrass pair f = P · A modulo X^w of a row polynomial: P is monic of degree d, the order of f, and is Y^d at X = 0; A has D − d + 1
 // rows and is not 0 at X = 0, Y = 0. Rows 0..d−1 of the output are P's rows below Y^d, rows d..D are A's, columns from w up are 0.
+#![tactic(auto)]
+
 ghost use Rattle.std.specs.Prelude.{◌≡◌, ℕ, ◌+◌, ◌-◌, ◌*◌, ◌≤◌, ◌<◌, length, eqb};
 ghost use Rattle.numbers.specs.Refusals.{judge, outcome};
 ghost use Rattle.numbers.specs.Words.{word, choose};

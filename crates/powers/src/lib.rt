@@ -1,5 +1,7 @@
 // Powers of Y − c: found in a polynomial by repeated division, and worked out. These trust their caller: they have a `requires`, and are for the crates of this
 // repository. All are proved for every modulus below 2^24.
+#![tactic(auto)]
+
 ghost use Rattle.std.specs.Prelude.{◌≡◌, ◌+◌, ◌-◌, ◌*◌, ◌≤◌, ◌<◌, length};
 ghost use Rattle.algebra.specs.Prime.{Prime};
 ghost use Rattle.numbers.specs.Words.{word, tabulate};

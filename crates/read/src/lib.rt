@@ -1,4 +1,6 @@
 // Typed polynomials: text to rows.
+#![tactic(auto)]
+
 ghost use Rattle.std.specs.Prelude.{◌≡◌, [], ◌∷◌, ◌-◌, ◌*◌, ◌≤◌, length};
 ghost use Rattle.numbers.specs.Refusals.{judge, outcome, outcome_after, written, room_check};
 ghost use Rattle.numbers.specs.Limits.{most_rows, largest_width};

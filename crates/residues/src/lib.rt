@@ -1,4 +1,6 @@
 // A number modulo p, together with its p. Anyone can fill one in, so every operation judges what it holds.
+#![tactic(auto)]
+
 ghost use Rattle.std.specs.Prelude.{◌≡◌, ◌≤◌, length};
 ghost use Rattle.numbers.specs.Refusals.{judge};
 ghost use Rattle.residues.specs.Number.{number_outcome, operand_checks, sum_of, difference_of, product_of, inverse_number};

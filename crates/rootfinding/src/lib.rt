@@ -1,4 +1,6 @@
 // The roots of a monic polynomial over F_p, with their powers. These trust their caller: they have a `requires`, and are for the crates of this repository.
+#![tactic(auto)]
+
 mod finding; // what was found, checked
 mod scan; // the roots by trying every number
 mod search; // the roots by gcd, unchecked

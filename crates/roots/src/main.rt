@@ -1,4 +1,6 @@
 // Reads a job file from standard input and prints its roots as series, with signed entries, or the line of its refusal.
+#![tactic(auto)]
+
 use job::limits::JOB_ROOM;
 use libc::{STDIN_FILENO, STDOUT_FILENO};
 use listing::kernel::reply;

@@ -1,5 +1,7 @@
 // Row polynomials modulo a prime: D + 1 rows of N words each, row j the coefficient of Y^j, in slices that the caller lends. Every
 // operation answers every input, by the number of words that it writes to the front of `out` or by a refusal, and then `out` is as it was.
+#![tactic(auto)]
+
 ghost use Rattle.std.specs.Prelude.{◌≡◌, ◌+◌, ◌*◌, length};
 ghost use Rattle.numbers.specs.Words.{over};
 ghost use Rattle.numbers.specs.Refusals.{judge, outcome, outcome_after, written};

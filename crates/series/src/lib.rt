@@ -1,5 +1,7 @@
 // Series modulo a prime: N words each, in slices that the caller lends. Every operation answers every input: it writes N words to the front of
 // `out` and answers N, but for the quotient, which answers how many of them are known; or it refuses, and then `out` is as it was.
+#![tactic(auto)]
+
 ghost use Rattle.std.specs.Prelude.{◌≡◌, [], ◌∷◌, length};
 ghost use Rattle.numbers.specs.Words.{over};
 ghost use Rattle.numbers.specs.Refusals.{judge, outcome, outcome_after, written};

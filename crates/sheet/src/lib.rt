@@ -1,5 +1,7 @@
 // The factor sheet: a polynomial, its roots at X = 0 with their powers, and its Hensel factors to k terms, in words that leave the house and come
 // back. Every call judges the words that it is lent; a refusal changes none.
+#![tactic(auto)]
+
 ghost use Rattle.std.specs.Prelude.{◌≡◌, ◌<◌, length};
 ghost use Rattle.numbers.specs.Words.{over};
 ghost use Rattle.numbers.specs.Refusals.{judge, outcome, outcome_after, written};

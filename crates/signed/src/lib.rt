@@ -1,4 +1,6 @@
 // Numbers modulo p as people write them, with a sign. It trusts its caller: it has a `requires`, and is for the crates of this repository.
+#![tactic(auto)]
+
 ghost use Rattle.std.specs.Prelude.{◌≤◌, ◌<◌};
 ghost use Rattle.numbers.specs.Limits.{largest_modulus};
 ghost use Rattle.signed.specs.Signed.{IsSigned};

@@ -1,4 +1,6 @@
 // Sheets whose roots all have power 1: each root goes on to one series s with f(s) = 0.
+#![tactic(auto)]
+
 ghost use Rattle.std.specs.Prelude.{◌≡◌, length};
 ghost use Rattle.numbers.specs.Refusals.{outcome};
 ghost use Rattle.simple.specs.Simple.{simple_verdict, SimpleRoots};

@@ -1,5 +1,7 @@
 // The solutions of P0 · A + P · A0 = Y^j for every j below the degree, P0 = (Y − c_0) .. (Y − c_(m−1)) for any roots: that for 1 by dividing by one
 // Y − c after the other, each next one by multiplying by Y. Nothing is divided by but A0 at P0's roots.
+#![tactic(auto)]
+
 ghost use Rattle.std.specs.Prelude.{◌≡◌, ℕ, ◌+◌, ◌-◌, ◌*◌, ◌%◌, ◌≤◌, ◌<◌, length};
 ghost use Rattle.algebra.specs.Prime.{Prime};
 ghost use Rattle.numbers.specs.Words.{word, tabulate};

@@ -1,4 +1,6 @@
 // Putting the listing's text into a buffer, piece after piece: each function is given the place to begin at and answers the place after what it put.
+#![tactic(auto)]
+
 ghost use Rattle.std.specs.Prelude.{◌++◌, ◌+◌, ◌*◌, ◌≤◌, ◌<◌, length};
 ghost use Rattle.numbers.specs.Limits.{largest_modulus};
 ghost use Rattle.numbers.specs.internal.Facts.{AllBelow};

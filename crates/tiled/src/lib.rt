@@ -1,5 +1,7 @@
 // The columns of the split by tiles: beside the rows stand the words that the next columns multiply, P's as pairs and A's as the lanes of tiles, so that
 // eight sums run at a time; or A's as pairs and P's as lanes, where that leaves fewer lanes empty.
+#![tactic(auto)]
+
 ghost use Rattle.std.specs.Prelude.{◌≡◌, ◌⊎◌, List, ℕ, ◌+◌, ◌-◌, ◌*◌, ◌%◌, ◌≤◌, ◌<◌, length};
 ghost use Rattle.numbers.specs.Words.{word, tabulate};
 ghost use Rattle.numbers.specs.internal.Facts.{AllBelow};

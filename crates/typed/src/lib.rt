@@ -1,4 +1,6 @@
 // Typed input to an answer key: a line `MODULUS TERMS`, and a polynomial after it.
+#![tactic(auto)]
+
 ghost use Rattle.std.specs.Prelude.{◌≡◌, ◌-◌, ◌≤◌, length, take, drop};
 ghost use Rattle.numbers.specs.Refusals.{judge, outcome};
 ghost use Rattle.job.specs.Limits.{most_width};
