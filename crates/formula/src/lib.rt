@@ -14,7 +14,7 @@ pub mod reader; // the text with a place in it
 mod survey; // one pass along the text
 
 // What a byte is.
-#[derive(Drop)]
+#[derive(Clone, Copy)]
 pub enum Kind {
     Blank,
     Digit(u32),
@@ -58,7 +58,7 @@ pub fn kind_at(text: &[u8], at: usize) -> Kind
 }
 
 // Whether a text can be read, and its brackets are not too deep.
-#[derive(Drop)]
+#[derive(Clone, Copy)]
 pub enum Surveyed {
     Unreadable,
     Deep,

@@ -25,7 +25,7 @@ const DONE: u32 = 6; // a power has ended
 const STUCK: u32 = 7; // the text cannot be read
 
 // The state, digits and value of the number that is read, where 256 stands for all above 255, and the brackets that are open.
-#[derive(Drop)]
+#[derive(Clone, Copy)]
 pub struct Glance {
     pub mode: u32,
     pub digits: u32,
@@ -231,7 +231,7 @@ pub fn readable(text: &[u8]) -> bool
 }
 
 // How many brackets are open, and the most that were.
-#[derive(Drop)]
+#[derive(Clone, Copy)]
 pub struct Depth {
     pub level: u32,
     pub most: u32,

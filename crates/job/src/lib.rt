@@ -35,7 +35,7 @@ fn number(job: &[u8], at: usize, size: usize) -> u32
 }
 
 // The kind of a file: where its fields begin, and the bytes of each.
-#[derive(Drop)]
+#[derive(Clone, Copy)]
 pub struct Form {
     pub first: usize,
     pub size: usize,

@@ -19,7 +19,7 @@ pub const LENGTHS_FROM: usize = 11;
 pub const FACTORS_ROOM: usize = 8192;
 
 // What the header says but for the offsets, which D, N and r give.
-#[derive(Drop)]
+#[derive(Clone, Copy)]
 pub struct Header {
     pub p: u32,
     pub degree: usize,
@@ -44,7 +44,7 @@ pub fn read_header(s: &[u32]) -> Header
 }
 
 // Where the header says that the parts begin, and where the sheet ends.
-#[derive(Drop)]
+#[derive(Clone, Copy)]
 pub struct Offsets {
     pub roots: usize,
     pub polynomial: usize,

@@ -22,7 +22,7 @@ mod places; // what stands at a place of the text
 mod values; // the values of parts of a formula
 
 // What a reader of a part of a formula answers.
-#[derive(Drop)]
+#[derive(Clone, Copy)]
 pub enum Part {
     // The place after it, and how many rows of its value count.
     Value(usize, usize),
@@ -30,14 +30,14 @@ pub enum Part {
 }
 
 // Where a sum's first term begins, and whether a minus stands before it.
-#[derive(Drop)]
+#[derive(Clone, Copy)]
 pub struct Start {
     pub minus: bool,
     pub at: usize,
 }
 
 // A number that was read: its value and the place after it; or it has too many digits, or is too large, or none stands there.
-#[derive(Drop)]
+#[derive(Clone, Copy)]
 pub struct Number {
     pub value: u32,
     pub at: usize,

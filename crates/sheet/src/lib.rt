@@ -17,13 +17,13 @@ use numbers::refusal::{Answer, Refusal, Verdict, refuse};
 pub mod kernel; // the factors worked out, for callers that have judged
 
 // A factor's root at X = 0 and its power, which is its degree.
-#[derive(Drop)]
+#[derive(Clone, Copy)]
 pub struct Factor {
     pub root: u32,
     pub power: u32,
 }
 
-#[derive(Drop)]
+#[derive(Clone, Copy)]
 pub enum FactorAnswer {
     Is(Factor),
     Refused(Refusal),
@@ -81,7 +81,7 @@ pub fn factor_rows(sheet: &[u32], i: u32) -> &[u32]
 }
 
 // What a row operation is given with the rows of a factor, but for the rows: modulus, degree bound and width.
-#[derive(Drop)]
+#[derive(Clone, Copy)]
 struct Shape {
     p: u32,
     bound: u32,

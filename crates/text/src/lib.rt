@@ -14,7 +14,7 @@ ghost use Rattle.text.specs.internal.Putting.{Puts, Entries, Listable};
 ghost use Rattle.text.specs.Text.{signed_text, number_text, more_numbers, join_to, row_name, row_line, row_lines, root_line, head_line, factor_text, listing_text, roots_text, refused_text};
 
 // What a listing shows of a sheet: its factors, or its roots as series.
-#[derive(Drop)]
+#[derive(Clone, Copy)]
 pub enum Profile {
     Factors,
     Roots,

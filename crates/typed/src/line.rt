@@ -8,7 +8,7 @@ use formula::limits::MOST_DIGITS;
 pub const LINE_FEED: u8 = 10; // the end of a line
 
 // A number as far as it was read: its value, its digits, and the place after it.
-#[derive(Drop)]
+#[derive(Clone, Copy)]
 pub struct Number {
     pub value: u32,
     pub count: u32,
@@ -16,7 +16,7 @@ pub struct Number {
 }
 
 // What a first line says: modulus, terms, and the place where the text begins.
-#[derive(Drop)]
+#[derive(Clone, Copy)]
 pub enum Line {
     Asked(u32, u32, usize),
     Other,

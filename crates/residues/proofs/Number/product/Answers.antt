@@ -1,0 +1,45 @@
+-- `residues::Number::product` meets its contract: where the check passes both operands are below p.
+-- Assumes nothing.
+use mathlib.Core.Path.{◌≡◌, ◌∙◌, sym}
+use mathlib.Core.List.{[], ◌∷◌}
+use Prim.Native.Nat.{◌*◌}
+use native.Mathlib.Nat.{mod-lt, mul-le-mul, le_of_lt, lt_trans}
+use native.Mathlib.Omega.{arith}
+use Rattle.numbers.specs.Refusals.{judge}
+use Rattle.numbers.specs.internal.Limits.{modulus_bound}
+use Rattle.numbers.specs.declared.refusal.Verdict.TheVariants.{Pass}
+use Rattle.residues.specs.Number.{operand_checks, product_of}
+use Rattle.residues.proofs.NumberLaws.{Operands, two-pass, refused-is, accepted-is}
+use Rattle.residues.proofs.Number.product.Goals as goal
+use Rattle.residues.proofs.Number.product.Lts as step
+use Rattle.residues.proofs.Number.product.Reads as reads
+use Rattle.residues.proofs.Number.product.Tie as tie
+
+-- where the check has passed
+passed : (b : step.Past-After-enum_told tie.the-claims reads.Pre reads.Post) → let a = b.args in judge (operand_checks a.self.p (a.self.value ∷ a.other ∷ [])) ≡ Pass
+passed b = sym b.check_operands.ensures ∙ b.in_default.is
+
+facts : (b : step.Past-After-enum_told tie.the-claims reads.Pre reads.Post) → let a = b.args in Operands a.self.p a.self.value a.other
+facts b = two-pass _ _ _ (passed b)
+
+pub returns-in-Refuse : goal.returns-in-Refuse
+unfolding product_of
+returns-in-Refuse c = refused-is _ _ (sym c.check_operands.ensures ∙ c.in-Refuse.is)
+
+pub overflow_mul-v : goal.overflow_mul-v
+overflow_mul-v c =
+    let o = facts c in
+    record { fits = omega (arith, mul-le-mul {n₂ = modulus_bound} {m₂ = modulus_bound} (le_of_lt (lt_trans o.left o.modulus.small)) (le_of_lt (lt_trans o.right o.modulus.small))) }
+
+pub nonzero_rem-v : goal.nonzero_rem-v
+nonzero_rem-v c = let o = facts c in omega arith
+
+pub overflow_cast-result : goal.overflow_cast-result
+overflow_cast-result c =
+    let a = c.args in
+    let o = facts c in
+    omega (arith, mod-lt (a.self.value * a.other) {m = a.self.p} (omega arith))
+
+pub returns : goal.returns
+unfolding product_of
+returns c = accepted-is _ (passed c)
