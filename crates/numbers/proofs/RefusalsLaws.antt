@@ -231,13 +231,13 @@ accepted-pass (Refuse r) x T e = unlike T r.number r.detail (sym e)
 
 -- after a refusal the answer is that refusal, and the words are as they were
 pub answer-refused : {v : Verdict} (r : Refusal) (n : ℕ) (new old : List ℕ) → v ≡ Refuse r
-    → (◌≡◌ {A = Outcome ℕ} (refused r.number r.detail) (outcome_after v n)) × (old ≡ written v new old)
-answer-refused r n new old e = rw e (refl, refl)
+    → record { answer : ◌≡◌ {A = Outcome ℕ} (refused r.number r.detail) (outcome_after v n); words : old ≡ written v new old }
+answer-refused r n new old e = rw e (record { answer = refl; words = refl })
 
 -- after a pass the answer is n, and the words are those that a kernel wrote, whose count k it may name in its own way, m
 pub answer-done : {v : Verdict} (F : ℕ → List ℕ) (m k n : ℕ) (old out : List ℕ) → v ≡ Pass → out ≡ over (F m) old → m ≡ k
-    → (◌≡◌ {A = Outcome ℕ} (accepted n) (outcome_after v n)) × (out ≡ written v (over (F k) old) old)
-answer-done F m k n old out e w q = rw e (refl, w ∙ ap (λ (x : ℕ). over (F x) old) q)
+    → record { answer : ◌≡◌ {A = Outcome ℕ} (accepted n) (outcome_after v n); words : out ≡ written v (over (F k) old) old }
+answer-done F m k n old out e w q = rw e (record { answer = refl; words = w ∙ ap (λ (x : ℕ). over (F x) old) q })
 
 -- an answer and what it leaves, after a verdict
 pub leave-refused : {v : Verdict} (r : Refusal) (x : ℕ) (Done : Type 0) (s : List ℕ) → v ≡ Refuse r

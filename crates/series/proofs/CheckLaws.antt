@@ -26,7 +26,8 @@ use Rattle.series.specs.Series.{series_checks, known_checks}
 use Rattle.series.proofs.KnownLaws.{known-test}
 
 -- where a call made the refusal
-pub answer-told : {v : Verdict} (a : Answer) (r : Refusal) (n : ℕ) (new old : List ℕ) → a ≡ Refused r → v ≡ Refuse r → (outcome a ≡ outcome_after v n) × (old ≡ written v new old)
+pub answer-told : {v : Verdict} (a : Answer) (r : Refusal) (n : ℕ) (new old : List ℕ) → a ≡ Refused r → v ≡ Refuse r
+    → record { answer : outcome a ≡ outcome_after v n; words : old ≡ written v new old }
 answer-told a r n new old w e = rw w (answer-refused r n new old e)
 
 -- what a pass says of two series, as the kernels require it
@@ -38,7 +39,10 @@ module _ (p N : ℕ) (g h : List ℕ) (room : ℕ) (e : judge (series_checks p N
 
   -- the answer, where a kernel wrote as many words as g has
   pub series-done : (F : ℕ → List ℕ) (old out : List ℕ) → out ≡ over (F (length g)) old
-      → (◌≡◌ {A = Outcome ℕ} (accepted N) (outcome_after (judge (series_checks p N g h room)) N)) × (out ≡ written (judge (series_checks p N g h room)) (over (F N) old) old)
+      → record {
+        answer : ◌≡◌ {A = Outcome ℕ} (accepted N) (outcome_after (judge (series_checks p N g h room)) N);
+        words : out ≡ written (judge (series_checks p N g h room)) (over (F N) old) old;
+      }
   series-done F old out w = let o = operation-pass p N g 1 h 1 1 room e in answer-done F (length g) N N old out e w (omega arith)
 
 -- what `known_to` finds of a row with N words

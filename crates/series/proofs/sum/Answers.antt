@@ -1,0 +1,60 @@
+-- `series::sum` meets its contract: what the check lets pass is what the kernel requires of the known words, and zeros follow them.
+-- Assumes nothing.
+use mathlib.Core.Path.{◌≡◌, sym, ◌∙◌}
+use Prim.Native.Nat.{◌≤◌}
+use native.Mathlib.Omega.{arith}
+use lib.ListN.{length}
+use lib.Seq.{length-take-le}
+use Rattle.numbers.specs.Refusals.{judge}
+use Rattle.numbers.specs.declared.refusal.Verdict.TheVariants.{Pass}
+use Rattle.numbers.proofs.RefusalsLaws.{answer-refused, answer-done}
+use Rattle.series.specs.Series.{known_checks, sums}
+use Rattle.series.proofs.KnownLaws.{sums-written}
+use Rattle.series.proofs.CheckLaws.{known-within, known-ready}
+use Rattle.series.proofs.sum.Goals as goal
+use Rattle.series.proofs.sum.Lts as step
+use Rattle.series.proofs.sum.Reads as reads
+use Rattle.series.proofs.sum.Tie as tie
+
+pub returns-in-Refuse : goal.returns-in-Refuse
+returns-in-Refuse c = answer-refused _ _ _ _ (sym c.check_known.ensures ∙ c.in-Refuse.is)
+
+-- where the check has passed
+passed : (b : step.Past-After-enum_told tie.the-claims reads.Pre reads.Post tie.handed_clauses) → let a = b.args in judge (known_checks a.p a.n a.g.now a.gknown a.h.now a.hknown (length a.out.now)) ≡ Pass
+passed b = sym b.check_known.ensures ∙ b.in_default.is
+
+-- and the count that both are known to
+known : (b : step.After-lesser tie.the-claims reads.Pre reads.Post tie.handed_clauses) → let a = b.args in let k = b.lesser-known.result in
+    (k ≤ length a.g.now) × (k ≤ length a.h.now) × (length a.g.now ≡ a.n) × (a.n ≤ length a.out.now)
+known b =
+    let a = b.args in
+    known-within a.p a.n a.g.now a.gknown a.h.now a.hknown (length a.out.now) (passed b.before) _ b.lesser-known.ensures
+
+pub slice_bounds-add-end : goal.slice_bounds-add-end
+slice_bounds-add-end c = sym (length-take-le _ _ (known c.before).0)
+
+pub slice_bounds-add-end-2 : goal.slice_bounds-add-end-2
+slice_bounds-add-end-2 c = sym (length-take-le _ _ (known c.before).1)
+
+pub add-requires : goal.add-requires
+add-requires c =
+    let a = c.args in
+    let r = known-ready a.p a.n a.g.now a.gknown a.h.now a.hknown (length a.out.now) (passed c.before.before.before) _ c.lesser-known.ensures in
+    (r.0, r.1, r.3, r.4, r.5, r.6)
+
+pub slice_bounds-repeat-count : goal.slice_bounds-repeat-count
+slice_bounds-repeat-count c = let w = known c.before.before.before.before.before in omega arith
+
+pub slice_bounds-repeat-start : goal.slice_bounds-repeat-start
+slice_bounds-repeat-start c = let w = known c.before.before.before.before.before in omega arith
+
+pub slice_bounds-repeat-end : goal.slice_bounds-repeat-end
+slice_bounds-repeat-end c = let w = known c.before.before.before.before.before in omega arith
+
+pub returns : goal.returns
+returns c =
+    let a = c.args in
+    let w = known c.before.before.before.before.before.before.before.before.before in
+    answer-done (λ k. sums a.p k a.g.now a.gknown a.h.now a.hknown) (length a.g.now) _ _ _ _ (passed c.before.before.before.before.before.before.before.before.before.before)
+    (sums-written a.p a.g.now a.gknown a.h.now a.hknown _ c.lesser-known.ensures (omega arith) a.out.now _ _ (omega arith) c.repeat.ensures c.add.ensures)
+    (omega arith)
