@@ -30,8 +30,10 @@ module _ (p D N : ℕ) (f g : List ℕ) (room : ℕ) (e : judge (rows_checks p D
 
   -- the answer, where a kernel wrote as many words as f has
   pub rows-done : (F : ℕ → List ℕ) (old out : List ℕ) → out ≡ over (F (length f)) old
-      → (◌≡◌ {A = Outcome ℕ} (accepted ((D + 1) * N)) (outcome_after (judge (rows_checks p D N f g room)) ((D + 1) * N)))
-      × (out ≡ written (judge (rows_checks p D N f g room)) (over (F ((D + 1) * N)) old) old)
+      → record {
+        answer : ◌≡◌ {A = Outcome ℕ} (accepted ((D + 1) * N)) (outcome_after (judge (rows_checks p D N f g room)) ((D + 1) * N));
+        words : out ≡ written (judge (rows_checks p D N f g room)) (over (F ((D + 1) * N)) old) old;
+      }
   rows-done F old out w = answer-done F (length f) ((D + 1) * N) ((D + 1) * N) old out e w (operation-pass p N f (D + 1) g (D + 1) (D + 1) room e).inputs.f-long
 
 -- the shift, where checks 1 to 6 pass for its coefficients

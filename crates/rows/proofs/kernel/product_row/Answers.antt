@@ -1,0 +1,34 @@
+-- `rows::kernel::product_row` meets its contract. The loop's invariant: out has the columns of the row before t.
+-- Assumes nothing.
+use mathlib.Core.Path.{◌≡◌, ap, ◌∙◌}
+use Prim.Native.Nat.{ℕ, ◌%◌}
+use native.Mathlib.Nat.{mod-lt}
+use native.Mathlib.Omega.{arith}
+use Rattle.numbers.specs.Words.{tabulate}
+use Rattle.numbers.proofs.WordsLaws.{writing-none, writing-next}
+use Rattle.rows.specs.Rows.{rows_of, mul}
+use Rattle.rows.proofs.RowsLaws.{pass-column, writing-whole}
+use Rattle.rows.proofs.kernel.product_row.Goals as goal
+
+pub loop-t-init : goal.loop-t-init
+unfolding tabulate
+loop-t-init c = (omega arith, writing-none _)
+
+pub passes-sum-requires : goal.passes-sum-requires
+passes-sum-requires c =
+    let h = c.requires in
+    (h.2, h.3, omega arith, omega arith, omega arith, omega arith, omega arith, λ k l. omega (arith, h.9 k l), λ k l. omega (arith, h.10 k l))
+
+pub overflow_cast-out : goal.overflow_cast-out
+overflow_cast-out c = omega (arith, mod-lt c.passes-sum.result {m = c.args.p} (omega arith))
+
+pub loop-t-preserved : goal.loop-t-preserved
+loop-t-preserved c =
+    let v = ap (λ (x : ℕ). x % c.args.p) c.passes-sum.ensures ∙ pass-column _ _ _ _ _ in
+    (omega arith, writing-next _ _ _ _ _ c.loop-t.invariant.1 v (omega arith))
+
+pub returns : goal.returns
+returns c =
+    let a = c.args in
+    let e : c.loop-t.t ≡ a.n = omega arith in
+    writing-whole _ _ _ _ c.loop-t.invariant.1 (omega arith) ∙ ap (λ (k : ℕ). tabulate k (mul a.p (rows_of a.f.now a.n a.frows) (rows_of a.g.now a.n a.grows) a.j)) e
