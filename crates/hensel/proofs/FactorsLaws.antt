@@ -26,7 +26,7 @@ use Rattle.algebra.specs.internal.Fp.{Fp, rem, col}
 use Rattle.algebra.proofs.FpLaws.{p-pos, Fp-field, val-unique}
 use Rattle.algebra.proofs.BridgeLaws.{same-rem, rem-zero, rem-one}
 use Rattle.rows.proofs.ShiftLaws.{root-power}
-use Rattle.rows.specs.Rows.{mul, monic}
+use Rattle.rows.specs.Rows.{monic}
 use Rattle.rows.proofs.MulLaws.{mul-rem, mul-ext, mul-lt}
 use Rattle.rows.proofs.MonicLaws.{monic-low, monic-top, monic-above, monic-later, monic-ext, by_place}
 use Rattle.hensel.specs.Factors.{root_power, flat, one, product, split, IsFactors, SameFactors, SamePolynomial}
