@@ -1,0 +1,16 @@
+-- `solution::expand` meets its contract.
+-- Assumes nothing.
+use mathlib.Core.Path.{◌≡◌, refl}
+use Prim.Native.Nat.{◌≤◌, ◌-◌}
+use native.Mathlib.Omega.{arith}
+use lib.ListN.{length}
+use Rattle.numbers.proofs.WordsLaws.{length_from, from-below}
+use borrow.Author.Rules.{rules}
+use Rattle.solution.proofs.DigitsLaws.{Expanding, expanding-none, expanding-turn, expanding-all}
+use Rattle.solution.proofs.expand.Given as goal
+
+abbrev pub invariant-loop-i : goal.invariant-loop-i
+invariant-loop-i l = (l.i ≤ length l.c) × (length l.e ≡ length l.initial.e) × Expanding l.p l.c l.initial.e l.i l.e
+
+abbrev pub decreases-loop-i : goal.decreases-loop-i
+decreases-loop-i l = l.i
