@@ -374,13 +374,20 @@ cell-small n j h l =
 
 pub solution-after : (p m k : ℕ) (P A row x : List ℕ) (n : length row ≡ m + k) (ex : x ≡ tabulate (length (take m row)) (next_word p (p - word row (m - 1)) P (take m row)))
     (y : List ℕ) → y ≡ tabulate (length (from (x ++ drop m row) m)) (next_word p (word row (m - 1)) A (from (x ++ drop m row) m)) → Bases p m k P A → AllBelow p row
-    → (length (put_from m (x ++ drop m row) y) ≡ m + k) × (AllBelow p (put_from m (x ++ drop m row) y)
-    × ((j : ℕ) → j + 1 < m + k → Solution p m k (word P) (word A) j (word row) → Solution p m k (word P) (word A) (j + 1) (word (put_from m (x ++ drop m row) y))))
+    → record {
+      long : length (put_from m (x ++ drop m row) y) ≡ m + k;
+      below : AllBelow p (put_from m (x ++ drop m row) y);
+      next : (j : ℕ) → j + 1 < m + k → Solution p m k (word P) (word A) j (word row) → Solution p m k (word P) (word A) (j + 1) (word (put_from m (x ++ drop m row) y));
+    }
 solution-after p m k P A row x n ex y ey b r =
     let z = out-long p m k P A row x n ex y ey in
     let low = out-low p m k P A row x n ex y ey in
     let high = out-high p m k P A row x n ex y ey in
-    (z, (λ i l. next-below p m k P A row (put_from m (x ++ drop m row) y) b n low high i (omega arith), next-solution p m k P A row (put_from m (x ++ drop m row) y) b n low high r))
+    record {
+      long = z;
+      below = λ i l. next-below p m k P A row (put_from m (x ++ drop m row) y) b n low high i (omega arith);
+      next = next-solution p m k P A row (put_from m (x ++ drop m row) y) b n low high r;
+    }
 
 -- one more row of the table, written by a call that was lent `len` words
 pub table-after : (p m k : ℕ) (P A : ℕ → ℕ) (j : ℕ) (T row y : List ℕ) (len : ℕ) → j < m + k → length T ≡ (m + k) * (m + k) → length row ≡ m + k → len ≡ m + k

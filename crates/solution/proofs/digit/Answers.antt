@@ -2,7 +2,6 @@
 -- Assumes nothing.
 use mathlib.Core.Path.{sym, ◌∙◌}
 use native.Mathlib.Omega.{arith}
-use borrow.Author.Rules.{rules}
 use Rattle.solution.proofs.DigitsLaws.{copied, prepare-ready, scratch-long, inverse-small, rest-long, rest_below, digit-is}
 use Rattle.solution.proofs.digit.Goals as goal
 
@@ -18,14 +17,13 @@ digit-requires c =
     let a = c.args in
     let r = c.requires in
     let q = copied a.a.now a.b.now _ r.6 c.load_column.ensures in
-    let w = c.prepare-inverse.ensures in
-    let n = rest-long r.0 a.c a.a.now r.3 r.7 r.9 _ _ q w.1 _ w.0 in (
+    let n = rest-long r.0 a.c a.a.now r.3 r.7 r.9 _ _ q c.prepare-inverse.ensures.words _ c.prepare-inverse.ensures.inverse in (
       let two = r.0.two-le in omega arith,
       r.1,
       r.2,
-      inverse-small r.0 a.c a.a.now r.3 r.7 r.9 _ _ q w.1 _ w.0,
+      inverse-small r.0 a.c a.a.now r.3 r.7 r.9 _ _ q c.prepare-inverse.ensures.words _ c.prepare-inverse.ensures.inverse,
       omega (arith, n),
-      rest_below r.0 a.c a.a.now r.3 r.7 r.9 _ _ q w.1 _ w.0,
+      rest_below r.0 a.c a.a.now r.3 r.7 r.9 _ _ q c.prepare-inverse.ensures.words _ c.prepare-inverse.ensures.inverse,
       r.8,
     )
 
@@ -34,5 +32,4 @@ returns c =
     let a = c.args in
     let r = c.requires in
     let q = copied a.a.now a.b.now _ r.6 c.load_column.ensures in
-    let w = c.prepare-inverse.ensures in
-    record { scratch = scratch-long r.0 a.c a.a.now r.3 r.7 r.9 _ _ q w.1 _ w.0 ∙ sym r.6; is = digit-is r.0 a.c a.a.now r.3 r.7 r.9 _ _ q w.1 _ w.0 a.e.now _ r.5 c.digit.ensures }
+    record { scratch = scratch-long r.0 a.c a.a.now r.3 r.7 r.9 _ _ q c.prepare-inverse.ensures.words _ c.prepare-inverse.ensures.inverse ∙ sym r.6; is = digit-is r.0 a.c a.a.now r.3 r.7 r.9 _ _ q c.prepare-inverse.ensures.words _ c.prepare-inverse.ensures.inverse a.e.now _ r.5 c.digit.ensures }

@@ -1,11 +1,9 @@
 -- `solution::digits` meets its contract.
 -- Assumes nothing.
 use mathlib.Core.Path.{◌≡◌, refl, subst, ◌∙◌}
-use Prim.Native.Nat.{◌≤◌, ◌-◌}
 use native.Mathlib.Omega.{arith}
 use lib.ListN.{length}
 use Rattle.numbers.proofs.WordsLaws.{length_from, from-below}
-use borrow.Author.Rules.{rules}
 use Rattle.solution.specs.internal.Table.{Digits}
 use Rattle.solution.proofs.DigitsLaws.{digits-none, digits_step}
 use Rattle.solution.proofs.digits.Goals as goal
@@ -38,15 +36,14 @@ digit-requires c =
 
 pub loop-l-preserved : goal.loop-l-preserved
 loop-l-preserved c =
-    let digit = c.digit in
     let a = c.args in
     let l = c.loop-l in
-    let x = digits_step a.p a.c.now a.a.now l.l a.e.now l.e _ (omega arith) l.invariant.3 digit.ensures.1 in
-    (omega arith, digit.ensures.0 ∙ l.invariant.1, x.long, x)
+    let x = digits_step a.p a.c.now a.a.now l.l a.e.now l.e _ (omega arith) l.invariant.3 c.digit.ensures.is in
+    (omega arith, c.digit.ensures.scratch ∙ l.invariant.1, x.long, x)
 
 pub returns : goal.returns
 returns c =
     let a = c.args in
     let l = c.loop-l in
     let k : l.l ≡ length a.c.now = omega arith in
-    (l.invariant.1, subst (λ n. Digits a.p a.c.now a.a.now n a.e.now l.e) k l.invariant.3)
+    record { scratch = l.invariant.1; is = subst (λ n. Digits a.p a.c.now a.a.now n a.e.now l.e) k l.invariant.3 }

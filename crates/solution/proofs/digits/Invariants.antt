@@ -1,13 +1,9 @@
 -- `solution::digits` meets its contract.
 -- Assumes nothing.
-use mathlib.Core.Path.{◌≡◌, refl, subst, ◌∙◌}
+use mathlib.Core.Path.{◌≡◌}
 use Prim.Native.Nat.{◌≤◌, ◌-◌}
-use native.Mathlib.Omega.{arith}
 use lib.ListN.{length}
-use Rattle.numbers.proofs.WordsLaws.{length_from, from-below}
-use borrow.Author.Rules.{rules}
 use Rattle.solution.specs.internal.Table.{Digits}
-use Rattle.solution.proofs.DigitsLaws.{digits-none, digits_step}
 use Rattle.solution.proofs.digits.Given as goal
 
 abbrev pub invariant-loop-l : goal.invariant-loop-l

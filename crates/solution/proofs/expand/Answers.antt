@@ -1,12 +1,10 @@
 -- `solution::expand` meets its contract.
 -- Assumes nothing.
-use mathlib.Core.Path.{◌≡◌, refl}
-use Prim.Native.Nat.{◌≤◌, ◌-◌}
+use mathlib.Core.Path.{refl}
+use Prim.Native.Nat.{◌-◌}
 use native.Mathlib.Omega.{arith}
-use lib.ListN.{length}
 use Rattle.numbers.proofs.WordsLaws.{length_from, from-below}
-use borrow.Author.Rules.{rules}
-use Rattle.solution.proofs.DigitsLaws.{Expanding, expanding-none, expanding-turn, expanding-all}
+use Rattle.solution.proofs.DigitsLaws.{expanding-none, expanding-turn, expanding-all}
 use Rattle.solution.proofs.expand.Goals as goal
 
 pub loop-i-init : goal.loop-i-init

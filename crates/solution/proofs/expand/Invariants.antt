@@ -1,12 +1,9 @@
 -- `solution::expand` meets its contract.
 -- Assumes nothing.
-use mathlib.Core.Path.{◌≡◌, refl}
-use Prim.Native.Nat.{◌≤◌, ◌-◌}
-use native.Mathlib.Omega.{arith}
+use mathlib.Core.Path.{◌≡◌}
+use Prim.Native.Nat.{◌≤◌}
 use lib.ListN.{length}
-use Rattle.numbers.proofs.WordsLaws.{length_from, from-below}
-use borrow.Author.Rules.{rules}
-use Rattle.solution.proofs.DigitsLaws.{Expanding, expanding-none, expanding-turn, expanding-all}
+use Rattle.solution.proofs.DigitsLaws.{Expanding}
 use Rattle.solution.proofs.expand.Given as goal
 
 abbrev pub invariant-loop-i : goal.invariant-loop-i

@@ -1,14 +1,10 @@
 -- `solution::fill_table` meets its contract.
 -- Assumes nothing.
 use mathlib.Core.Path.{◌≡◌, refl, ◌∙◌}
-use Prim.Native.Nat.{◌≤◌, ◌<◌, ◌-◌, ◌+◌, ◌*◌}
+use Prim.Native.Nat.{◌-◌, ◌+◌, ◌*◌}
 use native.Mathlib.Omega.{arith}
-use lib.ListN.{length}
 use Rattle.numbers.specs.Words.{word}
-use Rattle.numbers.specs.internal.Facts.{AllBelow}
-use borrow.Author.Rules.{rules}
-use Rattle.solution.specs.internal.Table.{Solution, Table}
-use Rattle.solution.proofs.TableLaws.{cell-small, table-after, lent-long, next-solution}
+use Rattle.solution.proofs.TableLaws.{cell-small, table-after, lent-long}
 use native.Mathlib.Nat.{add-sub_cancel_left}
 use Rattle.solution.proofs.fill_table.Goals as goal
 
@@ -60,9 +56,8 @@ loop-j-preserved c =
     let a = c.args in
     let r = c.requires in
     let l = c.loop-j in
-    let w = c.next_solution.ensures in
     let x = table-after a.p a.m a.k (word a.p0.now) (word a.a0.now) l.j l.table l.row _ _ (omega arith) (l.invariant.2 ∙ r.3) l.invariant.1 (add-sub_cancel_left (l.j * (a.m + a.k)) (a.m + a.k)) c.load_column.ensures l.invariant.4 (l.invariant.5 (omega arith)) in
-    (omega arith, w.0, x.0 ∙ l.invariant.2, w.1.0, x.1, λ h. w.1.1 l.j h (l.invariant.5 (omega arith)))
+    (omega arith, c.next_solution.ensures.long, x.0 ∙ l.invariant.2, c.next_solution.ensures.below, x.1, λ h. c.next_solution.ensures.next l.j h (l.invariant.5 (omega arith)))
 
 pub returns : goal.returns
 returns c =

@@ -1,15 +1,11 @@
 -- `solution::fill_table` meets its contract.
 -- Assumes nothing.
-use mathlib.Core.Path.{◌≡◌, refl, ◌∙◌}
-use Prim.Native.Nat.{◌≤◌, ◌<◌, ◌-◌, ◌+◌, ◌*◌}
-use native.Mathlib.Omega.{arith}
+use mathlib.Core.Path.{◌≡◌}
+use Prim.Native.Nat.{◌≤◌, ◌<◌, ◌-◌}
 use lib.ListN.{length}
 use Rattle.numbers.specs.Words.{word}
 use Rattle.numbers.specs.internal.Facts.{AllBelow}
-use borrow.Author.Rules.{rules}
 use Rattle.solution.specs.internal.Table.{Solution, Table}
-use Rattle.solution.proofs.TableLaws.{cell-small, table-after, lent-long, next-solution}
-use native.Mathlib.Nat.{add-sub_cancel_left}
 use Rattle.solution.proofs.fill_table.Given as goal
 
 abbrev pub invariant-loop-j : goal.invariant-loop-j

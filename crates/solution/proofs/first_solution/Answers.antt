@@ -5,7 +5,6 @@ use Prim.Native.Nat.{◌≤◌, ◌-◌}
 use native.Mathlib.Omega.{arith}
 use lib.ListN.{length}
 use Rattle.numbers.proofs.WordsLaws.{length-tabulate, take_below}
-use borrow.Author.Rules.{rules}
 use Rattle.solution.proofs.TableLaws.{first-is, first_below}
 use lib.Seq.{length-take-le}
 use Rattle.columns.specs.internal.Column.{first_only}
@@ -32,26 +31,24 @@ digits-requires c =
 pub slice_bounds-expand-end-2 : goal.slice_bounds-expand-end-2
 slice_bounds-expand-end-2 c =
     let a = c.args in
-    sym (length-take-le (length a.c.now) _ (omega (arith, c.digits.ensures.1.long, ap length c.start_row.ensures, length-tabulate (length a.out.now) (first_only 1))))
+    sym (length-take-le (length a.c.now) _ (omega (arith, c.digits.ensures.is.long, ap length c.start_row.ensures, length-tabulate (length a.out.now) (first_only 1))))
 
 pub expand-requires : goal.expand-requires
 expand-requires c =
-    let digits = c.digits in
     let a = c.args in
     let r = c.requires in
     let two = r.0.two-le in
-    let d = digits.ensures.1 in
-    let room : length a.c.now ≤ length digits.new.1.1.1.1.0 = omega (arith, d.long, ap length c.start_row.ensures, length-tabulate (length a.out.now) (first_only 1)) in (
+    let d = c.digits.ensures.is in
+    let room : length a.c.now ≤ length c.digits.new.e = omega (arith, d.long, ap length c.start_row.ensures, length-tabulate (length a.out.now) (first_only 1)) in (
       omega arith,
       r.1,
-      omega (arith, length-take-le (length a.c.now) digits.new.1.1.1.1.0 room),
+      omega (arith, length-take-le (length a.c.now) c.digits.new.e room),
       r.7,
-      take_below a.p (length a.c.now) digits.new.1.1.1.1.0 room d.below,
+      take_below a.p (length a.c.now) c.digits.new.e room d.below,
     )
 
 pub returns : goal.returns
 returns c =
-    let digits = c.digits in
     let a = c.args in
     let r = c.requires in
-    record { scratch = digits.ensures.0; is = first-is a.p a.c.now a.a.now (length a.a.now - 1) _ a.out.now _ _ (omega arith) (omega arith) c.start_row.ensures digits.ensures.1 c.expand.ensures }
+    record { scratch = c.digits.ensures.scratch; is = first-is a.p a.c.now a.a.now (length a.a.now - 1) _ a.out.now _ _ (omega arith) (omega arith) c.start_row.ensures c.digits.ensures.is c.expand.ensures }

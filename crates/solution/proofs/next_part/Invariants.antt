@@ -1,16 +1,10 @@
 -- `solution::next_part` meets its contract.
 -- Assumes nothing.
-use mathlib.Core.Path.{◌≡◌, refl}
-use Prim.Native.Nat.{◌≤◌, ◌-◌, ◌+◌, ◌*◌}
-use native.Mathlib.Nat.{mod-lt}
-use native.Mathlib.Omega.{arith}
+use mathlib.Core.Path.{◌≡◌}
+use Prim.Native.Nat.{◌≤◌}
 use lib.ListN.{length}
-use Rattle.numbers.specs.Words.{word}
-use borrow.Author.Rules.{rules}
 use Rattle.solution.specs.internal.Table.{next_word}
-use Rattle.solution.proofs.DigitsLaws.{next-turn, next_last}
-use Rattle.columns.proofs.ColumnLaws.{sinking-none}
-use Rattle.columns.proofs.ColumnLaws.{product-fits, Sinking, sinking-store}
+use Rattle.columns.proofs.ColumnLaws.{Sinking}
 use Rattle.solution.proofs.next_part.Given as goal
 
 abbrev pub invariant-loop-j : goal.invariant-loop-j

@@ -4,7 +4,6 @@ use mathlib.Core.Path.{sym}
 use Prim.Native.Nat.{◌-◌}
 use native.Mathlib.Omega.{arith}
 use Rattle.numbers.proofs.WordsLaws.{take_below}
-use borrow.Author.Rules.{rules}
 use Rattle.solution.proofs.TableLaws.{solution-after, mid-length, mid-below}
 use lib.Seq.{length-take-le}
 use Rattle.solution.proofs.next_solution.Goals as goal

@@ -17,7 +17,7 @@ pub fill_table-requires : goal.fill_table-requires
 fill_table-requires c =
     let h = c.requires.0 in
     let a = c.args in
-    let f = node-first h.prime a.c.now a.a0.now h _ c.product_of.ensures _ c.first_solution.ensures.1 in
+    let f = node-first h.prime a.c.now a.a0.now h _ c.product_of.ensures _ c.first_solution.ensures.is in
     (bases h.prime a.c.now a.a0.now h _ c.product_of.ensures, f.0, f.1, c.requires.4, f.2)
 
 pub returns : goal.returns

@@ -4,7 +4,6 @@ use mathlib.Core.Path.{refl, ap, ◌∙◌}
 use native.Mathlib.Omega.{arith}
 use lib.ListN.{length}
 use Rattle.numbers.proofs.WordsLaws.{length-tabulate}
-use borrow.Author.Rules.{rules}
 use Rattle.solution.proofs.TableLaws.{unit-words, unit-below, unit-long, unit-room}
 use Rattle.columns.specs.internal.Column.{first_only}
 use Rattle.solution.proofs.product_of.Goals as goal

@@ -56,6 +56,7 @@ use Rattle.formula.specs.contracts.reader.survey_text.Key.{name as #formula·rea
 use Rattle.formula.specs.contracts.reader.survey_text as first
 use Rattle.formula.proofs.reader.survey_text.Statement as stated
 use Rattle.formula.proofs.reader.survey_text.Code as code
+use Rattle.formula.proofs.reader.survey_text.Goals as goal
 
 -- the struct's type, over the signature's lifetimes
 abbrev B : Lfts 1 → RattleType
@@ -156,12 +157,3 @@ first-meets : {M : Type 1} {𝓤 : Ura M} (𝓛 : Logic 𝓤) (mem : Memory → 
     → Meets 𝓛 first.signature (WpFn 𝓤 𝓛.H 𝓣.C 𝓣.Λ code.function) (first.spec 𝓛 mem run)
 first-meets {𝓤 = 𝓤} 𝓛 mem run 𝓣 known-new known_next = walk_Meets 𝓛 first.ended stayed (Goes-none_slice 𝓛 1 (0 ∷ []) tt (plain (λ _. u8)) yes, tt) (first.clauses 𝓛 mem run) (WpFn 𝓤 𝓛.H 𝓣.C 𝓣.Λ code.function) (WpFn-mono 𝓤 𝓛.H 𝓛.laws 𝓣 code.function)
     (first_walks 𝓛 mem run 𝓣.C 𝓣.Λ (fm_of 𝓤 𝓛.H 𝓛.laws 𝓣) known-new known_next)
-
-pub survey-text-spec : {M : Type 1} → stated.statement M
-unfolding code.routine tables_of
-survey-text-spec 𝓤 𝓛 𝓜 𝓡 =
-    entered 𝓤 𝓛.H (triple_of 𝓛 first.signature (first.spec 𝓛 𝓜.mem 𝓡.run))
-    (tables 𝓤 𝓛.H 𝓜 𝓡 code.env).C (tables 𝓤 𝓛.H 𝓜 𝓡 code.env).Λ #formula·reader·survey-text code.function (code.unfolded 𝓤 𝓛.H 𝓜 𝓡)
-    (first-meets 𝓛 𝓜.mem 𝓡.run (tables_of 𝓤 𝓛.H 𝓜 (tables 𝓤 𝓛.H 𝓜 𝓡 code.env))
-    (cited 𝓤 𝓛.H (New 𝓛 𝓜.mem 𝓡.run) 𝓜 𝓡 code.env #formula·reader·new new-def.routine code.calls-formula::reader::new (new-thm.met 𝓤 𝓛 𝓜 𝓡))
-    (cited 𝓤 𝓛.H (Next 𝓛 𝓜.mem 𝓡.run) 𝓜 𝓡 code.env #formula·reader·survey next-def.routine code.calls-formula::reader::survey (next-thm.met 𝓤 𝓛 𝓜 𝓡)))

@@ -57,6 +57,7 @@ use Rattle.formula.specs.contracts.reader.survey.Key.{name as #formula·reader·
 use Rattle.formula.specs.contracts.reader.survey as next
 use Rattle.formula.proofs.reader.survey.Statement as stated
 use Rattle.formula.proofs.reader.survey.Code as code
+use Rattle.formula.proofs.reader.survey.Goals as goal
 
 -- the struct's type, over the signature's lifetimes
 abbrev B : Lfts 1 → RattleType
@@ -159,11 +160,3 @@ next-meets : {M : Type 1} {𝓤 : Ura M} (𝓛 : Logic 𝓤) (mem : Memory → S
     → Meets 𝓛 next.signature (WpFn 𝓤 𝓛.H 𝓣.C 𝓣.Λ code.function) (next.spec 𝓛 mem run)
 next-meets {𝓤 = 𝓤} 𝓛 mem run 𝓣 Known-step = walk_Meets 𝓛 next.ended stayed (Goes-none 𝓛 1 B yes (λ κs x f. refl), tt) (next.clauses 𝓛 mem run) (WpFn 𝓤 𝓛.H 𝓣.C 𝓣.Λ code.function) (WpFn-mono 𝓤 𝓛.H 𝓛.laws 𝓣 code.function)
     (next-walks 𝓛 mem run 𝓣.C 𝓣.Λ (fm_of 𝓤 𝓛.H 𝓛.laws 𝓣) Known-step)
-
-pub survey-spec : {M : Type 1} → stated.statement M
-unfolding code.routine tables_of
-survey-spec 𝓤 𝓛 𝓜 𝓡 =
-    entered 𝓤 𝓛.H (triple_of 𝓛 next.signature (next.spec 𝓛 𝓜.mem 𝓡.run))
-    (tables 𝓤 𝓛.H 𝓜 𝓡 code.env).C (tables 𝓤 𝓛.H 𝓜 𝓡 code.env).Λ #formula·reader·survey code.function (code.unfolded 𝓤 𝓛.H 𝓜 𝓡)
-    (next-meets 𝓛 𝓜.mem 𝓡.run (tables_of 𝓤 𝓛.H 𝓜 (tables 𝓤 𝓛.H 𝓜 𝓡 code.env))
-    (cited 𝓤 𝓛.H (StepAt 𝓛 𝓜.mem 𝓡.run) 𝓜 𝓡 code.env #formula·survey-at step-def.routine code.calls-formula::survey-at (step_thm.met 𝓤 𝓛 𝓜 𝓡)))

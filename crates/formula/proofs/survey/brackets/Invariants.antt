@@ -1,0 +1,19 @@
+-- `formula::survey::brackets` meets its contract.
+-- Assumes nothing.
+use mathlib.Core.Path.{◌≡◌, refl, sym, ◌∙◌}
+use Prim.Native.Nat.{◌-◌, ◌≤◌}
+use native.Mathlib.Omega.{arith}
+use lib.ListN.{length, drop}
+use borrow.Author.Rules.{rules}
+use Rattle.formula.specs.internal.Survey.{deepest}
+use Rattle.formula.proofs.DepthLaws.{deep-byte, deep-end}
+use Rattle.formula.proofs.survey.brackets.Reads as reads
+use Rattle.formula.proofs.survey.brackets.Lts as lts
+use Rattle.formula.proofs.survey.deeper.Reads as deeper-reads
+use Rattle.formula.proofs.survey.brackets.Given as goal
+
+abbrev pub invariant-loop-i : goal.invariant-loop-i
+invariant-loop-i l = (l.i ≤ length l.text) × (l.level ≤ l.i) × (deepest 0 0 l.text ≡ deepest l.level l.most (drop l.i l.text))
+
+abbrev pub decreases-loop-i : goal.decreases-loop-i
+decreases-loop-i l = length l.text - l.i
