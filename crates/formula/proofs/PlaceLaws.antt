@@ -9,7 +9,7 @@ use native.Mathlib.Omega.{arith}
 use borrow.Author.Tests.{lt-ltb, le-ltb}
 use lib.ListN.{length, get_or, drop, drop_of_length-le}
 use lib.Seq.{drop-cons, drop-length}
-use mathlib.Core.Logic.{⊎_elim, ◌⊎◌}
+use mathlib.Core.Logic.{⊎_elim}
 use lib.Dec.{ltb, eqb}
 use Rattle.numbers.specs.Words.{choose}
 use Rattle.numbers.proofs.WordsLaws.{lt-or-ge, true-false}

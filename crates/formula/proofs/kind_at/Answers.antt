@@ -1,6 +1,5 @@
 -- `formula::kind_at` meets its contract.
 -- Assumes nothing.
-use borrow.Author.Rules.{rules}
 use borrow.Author.Tests.{lt-ltb, le-ltb}
 use Rattle.formula.specs.internal.Scan.{kind_at}
 use Rattle.formula.proofs.kind_at.Goals as goal

@@ -1,20 +1,11 @@
 -- `formula::kind_of` meets its contract.
 -- Assumes nothing.
 use mathlib.Core.Path.{sym, ap}
-use Prim.Native.Nat.{ℕ, ◌-◌, ◌<◌}
 use native.Mathlib.Omega.{arith}
 use Rattle.formula.specs.internal.Scan.{kind_of}
 use Rattle.formula.proofs.CompleteLaws.{kind-digit}
 use Rattle.formula.proofs.SoundLaws.{kind-other}
-use Rattle.formula.proofs.kind_of.Reads as reads
-use Rattle.formula.proofs.kind_of.Lts as lts
 use Rattle.formula.proofs.kind_of.Goals as goal
-
-small : (b : ℕ) → b < 58 → b - 48 < 4294967296
-small b h = omega arith
-
-pub overflow_cast-result : goal.overflow_cast-result
-overflow_cast-result c = record { fits = small _ c.if-b-lt58.true }
 
 pub returns-in-32 : goal.returns-in-32
 unfolding kind_of
@@ -56,7 +47,7 @@ pub returns-in-48-to-57 : goal.returns-in-48-to-57
 returns-in-48-to-57 c = sym (kind-digit _ (omega arith) (omega arith))
 
 pub returns-in_default : goal.returns-in_default
-returns-in_default c = let r = c.in_default-1.rest in kind-other _ (record { blank = r.0.0.0.0.0.0.0.0.1; x = r.0.0.0.0.0.0.0.1; y = r.0.0.0.0.0.0.1; plus = r.0.0.0.0.0.1; minus = r.0.0.0.0.1; star = r.0.0.0.1; caret = r.0.0.1; opens = r.0.1; closes = r.1; digit = λ z. let y : ⊥ = omega arith in y })
+returns-in_default c = let r = c.in_default.in_default-own.rest in kind-other _ (record { blank = r.0.0.0.0.0.0.0.0.1; x = r.0.0.0.0.0.0.0.1; y = r.0.0.0.0.0.0.1; plus = r.0.0.0.0.0.1; minus = r.0.0.0.0.1; star = r.0.0.0.1; caret = r.0.0.1; opens = r.0.1; closes = r.1; digit = λ z. let y : ⊥ = omega arith in y })
 
 pub returns-in_default-2 : goal.returns-in_default-2
-returns-in_default-2 c = let r = c.in_default-1.rest in kind-other _ (record { blank = r.0.0.0.0.0.0.0.0.1; x = r.0.0.0.0.0.0.0.1; y = r.0.0.0.0.0.0.1; plus = r.0.0.0.0.0.1; minus = r.0.0.0.0.1; star = r.0.0.0.1; caret = r.0.0.1; opens = r.0.1; closes = r.1; digit = λ z. let y : ⊥ = omega arith in y })
+returns-in_default-2 c = let r = c.in_default.in_default-own.rest in kind-other _ (record { blank = r.0.0.0.0.0.0.0.0.1; x = r.0.0.0.0.0.0.0.1; y = r.0.0.0.0.0.0.1; plus = r.0.0.0.0.0.1; minus = r.0.0.0.0.1; star = r.0.0.0.1; caret = r.0.0.1; opens = r.0.1; closes = r.1; digit = λ z. let y : ⊥ = omega arith in y })

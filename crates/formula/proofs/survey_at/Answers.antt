@@ -3,13 +3,8 @@
 use mathlib.Core.Path.{sym, ◌∙◌}
 use Prim.Native.Nat.{◌-◌}
 use lib.ListN.{length, take, drop}
-use borrow.Author.Rules.{rules}
 use Rattle.numbers.proofs.WordsLaws.{from_is}
 use Rattle.formula.proofs.FoundLaws.{survey-past, survey-long, survey-unread, survey-deep, survey-fine}
-use Rattle.formula.proofs.survey_at.Reads as reads
-use Rattle.formula.proofs.survey_at.Lts as lts
-use Rattle.formula.proofs.survey.brackets.Reads as brackets-reads
-use Rattle.formula.proofs.survey.readable.Reads as readable-reads
 use Rattle.formula.proofs.survey_at.Goals as goal
 
 pub returns-then-text-at : goal.returns-then-text-at

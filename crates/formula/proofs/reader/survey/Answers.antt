@@ -17,7 +17,6 @@ use prog.Wp.{Calls, Loops, WpFn, Tables}
 use types.Logic.{Logic, sem}
 use contract.Lifetimes.{Lfts}
 use contract.Monad.{Fun, fact}
-use contract.Running.{tables, tables_of}
 use types.Kit.{‵, raw, ◌⊛◌, given, ⋆, some, later, ◌$◌, ◌∵◌, !, qed, by, move, drop, use1, use2, split, join, learn, pick, fsplit, fjoin, suffices, frame, await, done}
 use types.Part.{whole, sub, look_in}
 use types.Run.{look, init, forget, stop, fld, from, load, of_opd, and_then, no_more, assigns, land, returns, enter, alloc1, alloc0, params1, pass1, pass0, free1, free0}
@@ -38,7 +37,6 @@ use denote.Triple.Statement.{Contract, Triple}
 use denote.Triple.Call.{calls_at}
 use denote.Triple.Entry.{Vals, on_entry}
 use denote.Triple.Spec.{Meets, triple_of}
-use denote.Triple.Table.{entered, cited}
 use denote.Triple.Walked.{says, Stays, stay_none, walk_of, Goes-none, Walks, ends_at, walked, walk_Meets}
 use denote.Exit.{yes}
 use denote.Triple.Clauses.{ensured, lasts}
@@ -50,14 +48,9 @@ use Rattle.formula.proofs.reader.Reader.TheLaws as T'
 use Rattle.formula.specs.contracts.Surveyed as S
 use Rattle.formula.proofs.Surveyed.TheLaws as S'
 use Rattle.formula.specs.contracts.survey_at as step
-use Rattle.formula.proofs.survey_at.Symbol as step-def
 use Rattle.formula.proofs.survey_at.Symbol.{name as #formula·survey-at}
-use Rattle.formula.proofs.survey_at.Met as step_thm
-use Rattle.formula.specs.contracts.reader.survey.Key.{name as #formula·reader·survey}
 use Rattle.formula.specs.contracts.reader.survey as next
-use Rattle.formula.proofs.reader.survey.Statement as stated
 use Rattle.formula.proofs.reader.survey.Code as code
-use Rattle.formula.proofs.reader.survey.Goals as goal
 
 -- the struct's type, over the signature's lifetimes
 abbrev B : Lfts 1 → RattleType

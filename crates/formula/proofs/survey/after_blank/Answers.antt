@@ -1,10 +1,6 @@
 -- `formula::survey::after_blank` meets its contract.
 -- Assumes nothing.
 use borrow.Author.Tests.{eq-eqb, ne_eqb, le-leb, lt-leb}
-use borrow.Author.Rules.{rules}
-use Rattle.formula.proofs.survey.after_blank.Reads as reads
-use Rattle.formula.proofs.survey.after_blank.Lts as lts
-use Rattle.formula.proofs.survey.state_of.Reads as state-of-reads
 use Rattle.formula.proofs.survey.after_blank.Goals as goal
 
 pub returns-then-mode-eq-NUMBER : goal.returns-then-mode-eq-NUMBER

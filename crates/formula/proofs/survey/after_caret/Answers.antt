@@ -1,10 +1,6 @@
 -- `formula::survey::after_caret` meets its contract.
 -- Assumes nothing.
 use borrow.Author.Tests.{eq-eqb, ne_eqb}
-use borrow.Author.Rules.{rules}
-use Rattle.formula.proofs.survey.after_caret.Reads as reads
-use Rattle.formula.proofs.survey.after_caret.Lts as lts
-use Rattle.formula.proofs.survey.state_of.Reads as state-of-reads
 use Rattle.formula.proofs.survey.after_caret.Goals as goal
 
 pub returns-then-mode-eq-NUMBER : goal.returns-then-mode-eq-NUMBER

@@ -2,12 +2,7 @@
 -- Assumes nothing.
 use mathlib.Core.Path.{sym, ◌∙◌}
 use borrow.Author.Tests.{lt-ltb, le-ltb}
-use borrow.Author.Rules.{rules}
 use Rattle.formula.proofs.SurveyLaws.{chosen, passed_over}
-use Rattle.formula.proofs.survey.after_close.Reads as reads
-use Rattle.formula.proofs.survey.after_close.Lts as lts
-use Rattle.formula.proofs.survey.is_whole.Reads as is-whole-reads
-use Rattle.formula.proofs.survey.state_of.Reads as state-of-reads
 use Rattle.formula.proofs.survey.after_close.Goals as goal
 
 pub returns-then-depth-gt0 : goal.returns-then-depth-gt0

@@ -4,12 +4,7 @@ use mathlib.Core.Path.{ap, ◌∙◌}
 use Prim.Native.Nat.{ℕ, ◌+◌}
 use native.Mathlib.Omega.{arith}
 use borrow.Author.Tests.{eq-eqb, ne_eqb, lt-ltb, le-ltb, le-leb, lt-leb}
-use borrow.Author.Rules.{rules}
 use Rattle.formula.specs.internal.Survey.{at}
-use Rattle.formula.proofs.survey.after_digit.Reads as reads
-use Rattle.formula.proofs.survey.after_digit.Lts as lts
-use Rattle.formula.proofs.survey.cap.Reads as cap-reads
-use Rattle.formula.proofs.survey.state_of.Reads as state-of-reads
 use Rattle.formula.proofs.survey.after_digit.Goals as goal
 
 pub returns-then-mode-le-WANT : goal.returns-then-mode-le-WANT

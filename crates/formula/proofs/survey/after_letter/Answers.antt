@@ -1,10 +1,6 @@
 -- `formula::survey::after_letter` meets its contract.
 -- Assumes nothing.
 use borrow.Author.Tests.{le-leb, lt-leb}
-use borrow.Author.Rules.{rules}
-use Rattle.formula.proofs.survey.after_letter.Reads as reads
-use Rattle.formula.proofs.survey.after_letter.Lts as lts
-use Rattle.formula.proofs.survey.state_of.Reads as state-of-reads
 use Rattle.formula.proofs.survey.after_letter.Goals as goal
 
 pub returns-then-mode-le-WANT : goal.returns-then-mode-le-WANT

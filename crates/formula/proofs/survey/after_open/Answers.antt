@@ -1,10 +1,6 @@
 -- `formula::survey::after_open` meets its contract.
 -- Assumes nothing.
 use borrow.Author.Tests.{le-leb, lt-leb}
-use borrow.Author.Rules.{rules}
-use Rattle.formula.proofs.survey.after_open.Reads as reads
-use Rattle.formula.proofs.survey.after_open.Lts as lts
-use Rattle.formula.proofs.survey.state_of.Reads as state-of-reads
 use Rattle.formula.proofs.survey.after_open.Goals as goal
 
 pub returns-then-mode-le-WANT : goal.returns-then-mode-le-WANT

@@ -2,12 +2,7 @@
 -- Assumes nothing.
 use mathlib.Core.Path.{sym, ◌∙◌}
 use borrow.Author.Tests.{eq-eqb, ne_eqb}
-use borrow.Author.Rules.{rules}
 use Rattle.formula.proofs.SurveyLaws.{chosen, passed_over}
-use Rattle.formula.proofs.survey.after_sign.Reads as reads
-use Rattle.formula.proofs.survey.after_sign.Lts as lts
-use Rattle.formula.proofs.survey.is_whole.Reads as is-whole-reads
-use Rattle.formula.proofs.survey.state_of.Reads as state-of-reads
 use Rattle.formula.proofs.survey.after_sign.Goals as goal
 
 pub returns-then-mode-eq-BEGIN : goal.returns-then-mode-eq-BEGIN

@@ -1,12 +1,7 @@
 -- `formula::survey::after_star` meets its contract.
 -- Assumes nothing.
 use mathlib.Core.Path.{sym, ◌∙◌}
-use borrow.Author.Rules.{rules}
 use Rattle.formula.proofs.SurveyLaws.{chosen, passed_over}
-use Rattle.formula.proofs.survey.after_star.Reads as reads
-use Rattle.formula.proofs.survey.after_star.Lts as lts
-use Rattle.formula.proofs.survey.is_whole.Reads as is-whole-reads
-use Rattle.formula.proofs.survey.state_of.Reads as state-of-reads
 use Rattle.formula.proofs.survey.after_star.Goals as goal
 
 pub returns-then-is_whole : goal.returns-then-is_whole

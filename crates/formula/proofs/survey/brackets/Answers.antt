@@ -1,15 +1,8 @@
 -- `formula::survey::brackets` meets its contract.
 -- Assumes nothing.
-use mathlib.Core.Path.{◌≡◌, refl, sym, ◌∙◌}
-use Prim.Native.Nat.{◌-◌, ◌≤◌}
+use mathlib.Core.Path.{refl, sym, ◌∙◌}
 use native.Mathlib.Omega.{arith}
-use lib.ListN.{length, drop}
-use borrow.Author.Rules.{rules}
-use Rattle.formula.specs.internal.Survey.{deepest}
 use Rattle.formula.proofs.DepthLaws.{deep-byte, deep-end}
-use Rattle.formula.proofs.survey.brackets.Reads as reads
-use Rattle.formula.proofs.survey.brackets.Lts as lts
-use Rattle.formula.proofs.survey.deeper.Reads as deeper-reads
 use Rattle.formula.proofs.survey.brackets.Goals as goal
 
 pub loop-i-init : goal.loop-i-init

@@ -1,8 +1,6 @@
 -- `formula::survey::cap` meets its contract.
 -- Assumes nothing.
 use borrow.Author.Tests.{le-leb, lt-leb}
-use Rattle.formula.proofs.survey.cap.Reads as reads
-use Rattle.formula.proofs.survey.cap.Lts as lts
 use Rattle.formula.proofs.survey.cap.Goals as goal
 
 pub returns-then-v-le-LARGEST_POWER : goal.returns-then-v-le-LARGEST_POWER

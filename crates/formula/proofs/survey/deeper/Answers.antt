@@ -3,11 +3,8 @@
 use mathlib.Core.Path.{◌≡◌, ap, ◌∙◌}
 use Prim.Native.Nat.{ℕ, suc, ◌+◌, ◌-◌, max}
 use native.Mathlib.Omega.{arith}
-use borrow.Author.Rules.{rules}
 use Rattle.formula.specs.internal.Survey.{deepest}
 use Rattle.formula.proofs.DepthLaws.{deep-other, deep-open, deep-close}
-use Rattle.formula.proofs.survey.deeper.Reads as reads
-use Rattle.formula.proofs.survey.deeper.Lts as lts
 use Rattle.formula.proofs.survey.deeper.Goals as goal
 
 pub returns-then-most-level : goal.returns-then-most-level

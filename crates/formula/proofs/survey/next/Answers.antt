@@ -1,22 +1,9 @@
 -- `formula::survey::next` meets its contract.
 -- Assumes nothing.
 use mathlib.Core.Path.{◌≡◌, sym, ap, ◌∙◌}
-use Prim.Native.Nat.{◌-◌}
-use borrow.Author.Rules.{rules}
 use Rattle.formula.specs.internal.Survey.{glance_next}
 use Rattle.formula.specs.declared.Kind.{Kind}
 use Rattle.formula.specs.declared.Kind.TheVariants.{Blank, Digit, LetterX, LetterY, Plus, Minus, Star, Caret, Open, Close, Other}
-use Rattle.formula.proofs.survey.next.Reads as reads
-use Rattle.formula.proofs.survey.next.Lts as lts
-use Rattle.formula.proofs.survey.after_blank.Reads as after-blank-reads
-use Rattle.formula.proofs.survey.after_caret.Reads as after-caret-reads
-use Rattle.formula.proofs.survey.after_close.Reads as after-close-reads
-use Rattle.formula.proofs.survey.after_digit.Reads as after-digit-reads
-use Rattle.formula.proofs.survey.after_letter.Reads as after-letter-reads
-use Rattle.formula.proofs.survey.after_open.Reads as after-open-reads
-use Rattle.formula.proofs.survey.after_sign.Reads as after-sign-reads
-use Rattle.formula.proofs.survey.after_star.Reads as after-star-reads
-use Rattle.formula.proofs.survey.state_of.Reads as state-of-reads
 use Rattle.formula.proofs.survey.next.Goals as goal
 
 pub after_digit-requires : goal.after_digit-requires
