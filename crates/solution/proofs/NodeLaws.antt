@@ -125,7 +125,11 @@ module _ {p : ℕ} (prime : Prime p) where
 -- the first words of both
 pub joined : (m k : ℕ) (P A e x y : List ℕ) → length P ≡ m + 1 → length A ≡ k + 1 → length e ≡ m + k
     → x ≡ tabulate (length (take m e)) (λ j. word P (j * 1 + 0)) → y ≡ tabulate (length (from (x ++ drop m e) m)) (λ j. word A (j * 1 + 0))
-    → (length (put_from m (x ++ drop m e) y) ≡ m + k) × (((i : ℕ) → i < m → word (put_from m (x ++ drop m e) y) i ≡ word P i) × ((i : ℕ) → i < k → word (put_from m (x ++ drop m e) y) (m + i) ≡ word A i))
+    → record {
+      long : length (put_from m (x ++ drop m e) y) ≡ m + k;
+      low : (i : ℕ) → i < m → word (put_from m (x ++ drop m e) y) i ≡ word P i;
+      high : (i : ℕ) → i < k → word (put_from m (x ++ drop m e) y) (m + i) ≡ word A i
+    }
 joined m k P A e x y nP nA ne ex ey =
     let nt : length (take m e) ≡ m = length-take-le m e (omega arith) in
     let nx : length x ≡ m = ap length ex ∙ length-tabulate (length (take m e)) _ ∙ nt in
@@ -133,13 +137,12 @@ joined m k P A e x y nP nA ne ex ey =
     let nw : length (x ++ drop m e) ≡ m + k = length-append x (drop m e) ∙ omega arith in
     let nf : length (from (x ++ drop m e) m) ≡ k = length_from (x ++ drop m e) m ∙ omega arith in
     let ny : length y ≡ k = ap length ey ∙ length-tabulate (length (from (x ++ drop m e) m)) _ ∙ nf in
-    let le : m ≤ length (x ++ drop m e) = omega arith in (
-      put-long m (x ++ drop m e) y le (omega arith) ∙ nw,
-      (
-        λ i l. put-kept m (x ++ drop m e) y le i l ∙ get_or-append x (drop m e) 0 i (omega arith) ∙ ap (λ s. word s i) ex ∙ word-tabulate (length (take m e)) _ i (omega arith) ∙ ap (word P) (let z : i * 1 + 0 ≡ i = omega arith in z),
-        λ i l. sym (get_or-drop m (put_from m (x ++ drop m e) y) i 0) ∙ ap (λ s. word s i) (put-drop m (x ++ drop m e) y le ∙ ey) ∙ word-tabulate (length (from (x ++ drop m e) m)) _ i (omega arith) ∙ ap (word A) (let z : i * 1 + 0 ≡ i = omega arith in z),
-      ),
-    )
+    let le : m ≤ length (x ++ drop m e) = omega arith in
+    record {
+      long = put-long m (x ++ drop m e) y le (omega arith) ∙ nw;
+      low = λ i l. put-kept m (x ++ drop m e) y le i l ∙ get_or-append x (drop m e) 0 i (omega arith) ∙ ap (λ s. word s i) ex ∙ word-tabulate (length (take m e)) _ i (omega arith) ∙ ap (word P) (let z : i * 1 + 0 ≡ i = omega arith in z);
+      high = λ i l. sym (get_or-drop m (put_from m (x ++ drop m e) y) i 0) ∙ ap (λ s. word s i) (put-drop m (x ++ drop m e) y le ∙ ey) ∙ word-tabulate (length (from (x ++ drop m e) m)) _ i (omega arith) ∙ ap (word A) (let z : i * 1 + 0 ≡ i = omega arith in z);
+    }
 
 -- column 0 is put
 module _ (p N m k : ℕ) (P A e s s' : List ℕ) (wide : 1 ≤ N) (ne : length e ≡ m + k) (bP : AllBelow p P) (bA : AllBelow p A) (nP : length P ≡ m + 1) (nA : length A ≡ k + 1)

@@ -1,0 +1,14 @@
+-- `modulo::power_of` meets its contract. The loop's invariant: the power by the digits of n down to that of `bit`.
+-- Assumes nothing.
+use Prim.Native.Nat.{◌/◌, ◌≤◌}
+use native.Mathlib.Nat.{mod-lt}
+use native.Mathlib.Omega.{arith}
+use Rattle.modulo.proofs.ProductLaws.{modulus-for, Powering, powering-none, powering-step, powering-all}
+use borrow.Author.Rules.{rules}
+use Rattle.modulo.proofs.power_of.Given as goal
+
+abbrev pub invariant-loop-bit : goal.invariant-loop-bit
+invariant-loop-bit l = (1 ≤ l.bit) × Powering l.p l.f l.c l.n l.bit l.out
+
+abbrev pub decreases-loop-bit : goal.decreases-loop-bit
+decreases-loop-bit l = l.bit
