@@ -22,7 +22,7 @@ use Rattle.algebra.proofs.BridgeLaws.{same-rem, rem-zero, rem-one}
 use Rattle.numbers.specs.Words.{word}
 use Rattle.numbers.specs.internal.Facts.{AllBelow}
 use Rattle.numbers.proofs.WordsLaws.{lt-or-ge, from, from_is, drop-below, take_below}
-use Rattle.rows.specs.Rows.{mul, line_power, unit, monic}
+use Rattle.rows.specs.Rows.{line_power, unit, monic}
 use Rattle.rows.proofs.RowsLaws.{line-lt, row_fits}
 use Rattle.rows.proofs.MulLaws.{mul-rem, mul-ext}
 use Rattle.rows.proofs.MonicLaws.{monic-low, monic-top, monic-above, monic-ext, by_place}

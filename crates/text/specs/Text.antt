@@ -13,7 +13,7 @@
 --   roots_text s h           the listing of its roots, whose series are the rows of h
 --   refused_text             the one line of a refusal
 -- Assumes nothing.
-use Rattle.std.specs.Prelude.{ℕ, zero, suc, ◌+◌, List, [], ◌∷◌, ◌++◌, ℤ, pos, negsuc}
+use Rattle.std.specs.Prelude.{ℕ, zero, suc, List, [], ◌∷◌, ◌++◌, ℤ, pos, negsuc}
 use Prim.Native.Char.{code}
 use Prim.Native.String.{String, [] as empty, ◌∷◌ as ◌∷ₛ◌}
 use Rattle.numbers.specs.Words.{tabulate}

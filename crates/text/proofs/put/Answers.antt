@@ -1,11 +1,7 @@
 -- `text::put` meets its contract: byte after byte.
 -- Assumes nothing.
-use Prim.Native.Nat.{◌+◌, ◌-◌, ◌≤◌}
 use native.Mathlib.Omega.{arith}
-use lib.ListN.{length, take}
-use Rattle.text.specs.internal.Putting.{Puts}
 use Rattle.text.proofs.TextLaws.{copy-none, copy-next, copy-all}
-use borrow.Author.Rules.{rules}
 use Rattle.text.proofs.put.Goals as goal
 
 pub loop-i-init : goal.loop-i-init

@@ -1,11 +1,8 @@
 -- `text::put` meets its contract: byte after byte.
 -- Assumes nothing.
 use Prim.Native.Nat.{◌+◌, ◌-◌, ◌≤◌}
-use native.Mathlib.Omega.{arith}
 use lib.ListN.{length, take}
 use Rattle.text.specs.internal.Putting.{Puts}
-use Rattle.text.proofs.TextLaws.{copy-none, copy-next, copy-all}
-use borrow.Author.Rules.{rules}
 use Rattle.text.proofs.put.Given as goal
 
 abbrev pub invariant-loop-i : goal.invariant-loop-i

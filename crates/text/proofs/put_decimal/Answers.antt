@@ -1,13 +1,12 @@
 -- `text::put_decimal` meets its contract: the digits found so far stand after those of what is left.
 -- Assumes nothing.
 use mathlib.Core.Path.{refl, ap}
-use Prim.Native.Nat.{◌<◌, ◌-◌}
+use Prim.Native.Nat.{◌-◌}
 use native.Mathlib.Omega.{arith}
 use lib.ListN.{length, length-set}
 use Rattle.text.specs.Decimal.{digit}
-use Rattle.text.proofs.DecimalLaws.{Finding, finding-start, finding-next, finding-last, digits-short}
+use Rattle.text.proofs.DecimalLaws.{finding-start, finding-next, finding-last, digits-short}
 use Rattle.text.proofs.TextLaws.{puts-as}
-use borrow.Author.Rules.{rules}
 use Rattle.text.proofs.put_decimal.Goals as goal
 
 pub loop-rest-init : goal.loop-rest-init

@@ -6,7 +6,6 @@ use native.Mathlib.Omega.{arith}
 use Rattle.layout.specs.Layout.{factor_size}
 use Rattle.layout.proofs.PlacesLaws.{factor-within}
 use Rattle.text.proofs.SheetTextLaws.{entries-as, power-few, factor-entries, factor-put}
-use borrow.Author.Rules.{rules}
 use Rattle.text.proofs.put_factor.Goals as goal
 use Rattle.text.proofs.put_factor.Lts as step
 use Rattle.text.proofs.put_factor.Reads as reads

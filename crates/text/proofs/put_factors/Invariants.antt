@@ -1,15 +1,11 @@
 -- `text::put_factors` meets its contract: factor after factor.
 -- Assumes nothing.
 use Prim.Native.Nat.{◌+◌, ◌-◌, ◌*◌, ◌≤◌}
-use native.Mathlib.Omega.{arith}
 use Rattle.algebra.specs.Sums.{sum_to}
 use Rattle.layout.specs.Layout.{power}
-use Rattle.layout.proofs.PlacesLaws.{placed-entries}
 use Rattle.text.specs.internal.Rooms.{root_room, row_room}
 use Rattle.text.specs.internal.Putting.{Puts}
 use Rattle.text.specs.Text.{join_to, factor_text}
-use Rattle.text.proofs.SheetTextLaws.{factors-none, factors-on, factors-room, factors-end}
-use borrow.Author.Rules.{rules}
 use Rattle.text.proofs.put_factors.Given as goal
 
 abbrev pub invariant-loop-i : goal.invariant-loop-i

@@ -5,7 +5,6 @@ use mir.Syntax.{w32}
 use mir.Val.{Fits}
 use Rattle.text.specs.Text.{head_line}
 use Rattle.text.proofs.TextLaws.{puts_then, puts-as}
-use borrow.Author.Rules.{rules}
 use Rattle.text.proofs.put_head.Goals as goal
 use Rattle.text.proofs.put_head.Lts as step
 use Rattle.text.proofs.put_head.Reads as reads

@@ -1,7 +1,6 @@
 -- `text::put_listing` meets its contract: line 1, and the factors.
 -- Assumes nothing.
 use Rattle.text.proofs.SheetTextLaws.{listing-put}
-use borrow.Author.Rules.{rules}
 use Rattle.text.proofs.put_listing.Goals as goal
 
 pub returns : goal.returns

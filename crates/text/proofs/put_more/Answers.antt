@@ -1,13 +1,7 @@
 -- `text::put_more` meets its contract: entry after entry.
 -- Assumes nothing.
-use mathlib.Core.Path.{◌≡◌, refl, ap}
-use Prim.Native.Nat.{◌-◌, ◌*◌, ◌≤◌}
 use native.Mathlib.Omega.{arith}
-use lib.ListN.{length, take}
-use Rattle.text.specs.internal.Putting.{Puts}
-use Rattle.text.specs.Text.{more_numbers, bytes}
-use Rattle.text.proofs.TextLaws.{puts-as, more-start, more-on, more-end}
-use borrow.Author.Rules.{rules}
+use Rattle.text.proofs.TextLaws.{more-start, more-on, more-end}
 use Rattle.text.proofs.put_more.Goals as goal
 
 pub loop-i-init : goal.loop-i-init

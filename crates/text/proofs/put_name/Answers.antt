@@ -4,7 +4,6 @@ use mathlib.Core.Path.{sym, ap}
 use native.Mathlib.Omega.{arith}
 use Rattle.text.specs.Text.{row_name}
 use Rattle.text.proofs.TextLaws.{puts_then, puts-as}
-use borrow.Author.Rules.{rules}
 use Rattle.text.proofs.put_name.Goals as goal
 
 pub returns-in-Factors : goal.returns-in-Factors

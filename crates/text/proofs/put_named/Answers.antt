@@ -1,7 +1,6 @@
 -- `text::put_named` meets its contract: one piece after another.
 -- Assumes nothing.
 use Rattle.text.proofs.TextLaws.{puts_then}
-use borrow.Author.Rules.{rules}
 use Rattle.text.proofs.put_named.Goals as goal
 
 pub returns : goal.returns

@@ -2,7 +2,6 @@
 -- Assumes nothing.
 use Rattle.text.specs.Text.{refused_text}
 use Rattle.text.proofs.TextLaws.{puts_then}
-use borrow.Author.Rules.{rules}
 use Rattle.text.proofs.put_refusal.Goals as goal
 
 pub returns : goal.returns

@@ -2,7 +2,6 @@
 -- Assumes nothing.
 use Rattle.text.specs.Text.{root_line}
 use Rattle.text.proofs.TextLaws.{puts_then}
-use borrow.Author.Rules.{rules}
 use Rattle.text.proofs.put_root.Goals as goal
 
 pub returns : goal.returns

@@ -5,7 +5,6 @@ use Prim.Native.Nat.{ℕ, ◌*◌}
 use native.Mathlib.Omega.{arith}
 use Rattle.layout.specs.Layout.{width, count}
 use Rattle.text.proofs.SheetTextLaws.{entries-as, roots-put}
-use borrow.Author.Rules.{rules}
 use Rattle.text.proofs.put_roots.Goals as goal
 use Rattle.text.proofs.put_roots.Lts as step
 use Rattle.text.proofs.put_roots.Reads as reads

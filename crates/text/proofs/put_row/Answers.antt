@@ -4,7 +4,6 @@ use mathlib.Core.Path.{refl}
 use native.Mathlib.Omega.{arith}
 use Rattle.text.specs.Text.{row_line}
 use Rattle.text.proofs.TextLaws.{puts_then, puts-as}
-use borrow.Author.Rules.{rules}
 use Rattle.text.proofs.put_row.Goals as goal
 
 pub returns : goal.returns

@@ -1,15 +1,10 @@
 -- `text::put_rows` meets its contract: line after line.
 -- Assumes nothing.
 use mathlib.Core.Path.{refl}
-use Prim.Native.Nat.{◌+◌, ◌-◌, ◌*◌, ◌≤◌}
+use Prim.Native.Nat.{◌+◌, ◌*◌, ◌≤◌}
 use native.Mathlib.Omega.{arith}
 use lib.ListN.{length}
-use Rattle.layout.specs.Layout.{rows_at}
-use Rattle.text.specs.internal.Rooms.{row_room}
-use Rattle.text.specs.internal.Putting.{Puts}
-use Rattle.text.specs.Text.{row_lines}
 use Rattle.text.proofs.SheetTextLaws.{rows_start, rows_on, rows_end, row-long, row_fits, row_below}
-use borrow.Author.Rules.{rules}
 use Rattle.text.proofs.put_rows.Goals as goal
 use Rattle.text.proofs.put_rows.Lts as step
 use Rattle.text.proofs.put_rows.Reads as reads

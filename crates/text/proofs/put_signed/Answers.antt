@@ -9,7 +9,6 @@ use Rattle.signed.proofs.SignedLaws.{signed-only}
 use Rattle.text.specs.Text.{signed_text}
 use Rattle.text.proofs.TextLaws.{puts_then, puts-within}
 use Rattle.text.proofs.SignedTextLaws.{Held, signed-held, signed-short, minus-fits, minus-cast, minus-text, plain-cast, plain-text}
-use borrow.Author.Rules.{rules}
 use Rattle.text.proofs.put_signed.Goals as goal
 use Rattle.text.proofs.put_signed.Lts as step
 use Rattle.text.proofs.put_signed.Reads as reads

@@ -1,13 +1,12 @@
 -- The proof of the cycle of calls {factor_rows}. The measure is the number of groups.
 -- Assumes nothing.
-use mathlib.Core.Path.{sym, subst, ◌∙◌}
+use mathlib.Core.Path.{sym, ◌∙◌}
 use native.Mathlib.Omega.{arith}
-use lib.ListN.{length, take, drop}
 use lib.Seq.{length-take-le}
 use Rattle.numbers.proofs.WordsLaws.{length_from}
 use Rattle.numbers.proofs.RefusalsLaws.{few_words}
 use Rattle.split.proofs.FactorLaws.{leaf, m-low, m-high, node-apart, seam-ok, ready-left, halved, ready-right-lent, left-size, count_room, power-room, half-sum, half_room, seam-after}
-use Prim.Native.Nat.{ℕ, ◌<◌, ◌-◌, ◌*◌}
+use Prim.Native.Nat.{◌*◌}
 use Rattle.split.proofs.factors.+factor_rows.Goals as goal
 
 pub returns-then-powers-lt2 : goal.returns-then-powers-lt2

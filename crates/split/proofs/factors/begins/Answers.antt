@@ -1,7 +1,7 @@
 -- `split::factors::begins` meets its contract. The loop's invariant: the words before j agree.
 -- Assumes nothing.
 use mathlib.Core.Path.{◌≡◌}
-use Prim.Native.Nat.{ℕ, ◌≤◌, ◌<◌, ◌-◌, ◌+◌, ◌*◌}
+use Prim.Native.Nat.{◌-◌, ◌*◌}
 use native.Mathlib.Omega.{arith}
 use borrow.Author.Count.{below_more}
 use lib.ListN.{length}
@@ -9,7 +9,6 @@ use Rattle.numbers.specs.Words.{word}
 use Rattle.numbers.proofs.TestsLaws.{decides-yes, decides-no}
 use Rattle.numbers.proofs.RefusalsLaws.{few_words}
 use Rattle.rows.proofs.RowsLaws.{row_fits}
-use borrow.Author.Rules.{rules}
 use Rattle.split.proofs.factors.begins.Goals as goal
 
 pub loop-j-init : goal.loop-j-init

@@ -1,9 +1,6 @@
 -- `split::factors::half` meets its contract.
 -- Assumes nothing.
-use Prim.Native.Nat.{◌≤◌, ◌<◌, ◌-◌, ◌*◌}
 use native.Mathlib.Omega.{arith}
-use lib.ListN.{length}
-use borrow.Author.Rules.{rules}
 use Rattle.split.proofs.factors.half.Goals as goal
 
 pub overflow_cast-m : goal.overflow_cast-m

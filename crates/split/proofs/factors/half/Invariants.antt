@@ -1,9 +1,7 @@
 -- `split::factors::half` meets its contract.
 -- Assumes nothing.
 use Prim.Native.Nat.{◌≤◌, ◌<◌, ◌-◌, ◌*◌}
-use native.Mathlib.Omega.{arith}
 use lib.ListN.{length}
-use borrow.Author.Rules.{rules}
 use Rattle.split.proofs.factors.half.Given as goal
 
 abbrev pub invariant-loop-i : goal.invariant-loop-i

@@ -1,11 +1,10 @@
 -- `split::factors::spread` meets its contract.
 -- Assumes nothing.
 use mathlib.Core.Path.{◌≡◌, refl, sym, ap, subst, ◌∙◌}
-use Prim.Native.Nat.{◌≤◌, ◌-◌, ◌+◌}
+use Prim.Native.Nat.{◌+◌}
 use native.Mathlib.Omega.{arith}
 use lib.ListN.{length}
 use Rattle.numbers.specs.Words.{word}
-use borrow.Author.Rules.{rules}
 use Rattle.split.proofs.FactorsToLaws.{spread-step, spread_none, spread-room}
 use Rattle.algebra.specs.Sums.{sum_to}
 use Rattle.algebra.proofs.SumsLaws.{sum_to-zero, sum_to-suc}

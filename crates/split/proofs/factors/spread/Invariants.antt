@@ -1,16 +1,10 @@
 -- `split::factors::spread` meets its contract.
 -- Assumes nothing.
-use mathlib.Core.Path.{◌≡◌, refl, sym, ap, subst, ◌∙◌}
-use Prim.Native.Nat.{◌≤◌, ◌-◌, ◌+◌}
-use native.Mathlib.Omega.{arith}
+use mathlib.Core.Path.{◌≡◌}
+use Prim.Native.Nat.{◌≤◌, ◌-◌}
 use lib.ListN.{length}
 use Rattle.numbers.specs.Words.{word}
-use borrow.Author.Rules.{rules}
-use Rattle.split.proofs.FactorsToLaws.{spread-step, spread_none, spread-room}
 use Rattle.algebra.specs.Sums.{sum_to}
-use Rattle.algebra.proofs.SumsLaws.{sum_to-zero, sum_to-suc}
-use native.Mathlib.Numerals.{add-one}
-use native.Mathlib.Nat.{add-sub_cancel_left}
 use Rattle.split.specs.internal.Found.{Spread}
 use Rattle.split.proofs.factors.spread.Given as goal
 

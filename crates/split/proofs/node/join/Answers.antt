@@ -2,7 +2,6 @@
 -- Assumes nothing.
 use mathlib.Core.Path.{sym}
 use native.Mathlib.Omega.{arith}
-use borrow.Author.Rules.{rules}
 use Rattle.solution.proofs.NodeLaws.{joined}
 use lib.Seq.{length-take-le}
 use Rattle.split.proofs.node.join.Goals as goal

@@ -7,7 +7,6 @@ use lib.ListN.{length}
 use lib.Seq.{length-take-le}
 use Rattle.rows.proofs.RowsLaws.{zeros}
 use Rattle.solution.proofs.NodeLaws.{square-small}
-use borrow.Author.Rules.{rules}
 use Rattle.split.proofs.node.split_by.Goals as goal
 
 pub overflow_mul-cells : goal.overflow_mul-cells

@@ -1,7 +1,6 @@
 -- `split::node::split_either` meets its contract.
 -- Assumes nothing.
 use native.Mathlib.Omega.{arith}
-use borrow.Author.Rules.{rules}
 use Rattle.split.proofs.node.split_either.Goals as goal
 
 pub split_tiled-requires : goal.split_tiled-requires

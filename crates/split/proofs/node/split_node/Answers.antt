@@ -6,7 +6,6 @@ use native.Mathlib.Omega.{arith}
 use lib.ListN.{length}
 use lib.Seq.{length-take-le}
 use Rattle.rows.proofs.RowsLaws.{zeros}
-use borrow.Author.Rules.{rules}
 use Rattle.split.proofs.node.split_node.Goals as goal
 
 pub slice_bounds-split_roots-end : goal.slice_bounds-split_roots-end

@@ -5,7 +5,6 @@ use native.Mathlib.Omega.{arith}
 use lib.Seq.{length-take-le}
 use Rattle.numbers.proofs.WordsLaws.{length_from, from-below}
 use Rattle.solution.proofs.NodeLaws.{node-start, node-split, node-rows, lines-drop}
-use borrow.Author.Rules.{rules}
 use Rattle.split.proofs.node.split_roots.Goals as goal
 
 pub product_of-requires : goal.product_of-requires

@@ -6,7 +6,6 @@ use native.Mathlib.Omega.{arith}
 use lib.ListN.{length}
 use Rattle.solution.proofs.NodeLaws.{put-ready, put-by}
 use Rattle.solution.proofs.StepLaws.{store-fits}
-use borrow.Author.Rules.{rules}
 use Rattle.split.proofs.node.split_with.Goals as goal
 
 pub store_column-requires : goal.store_column-requires

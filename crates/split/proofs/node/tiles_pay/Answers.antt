@@ -2,7 +2,6 @@
 -- Assumes nothing.
 use mathlib.Core.Path.{sym}
 use Rattle.numbers.proofs.WordsLaws.{true-false}
-use borrow.Author.Rules.{rules}
 use Rattle.split.proofs.node.tiles_pay.Goals as goal
 
 pub returns-then-m-lt4 : goal.returns-then-m-lt4
