@@ -14,7 +14,7 @@ use Rattle.numbers.specs.Words.{word, tabulate}
 use Rattle.numbers.proofs.WordsLaws.{length-tabulate, word-tabulate, tabulate-ext}
 use Rattle.rows.specs.Rows.{table}
 use Rattle.rows.proofs.RowsLaws.{length-table, word-table, table-ext}
-use Rattle.layout.specs.Layout.{modulus, degree, width, terms, count, reach, lengths_from, roots_from, polynomial_from, factors_from, root, power, polynomial}
+use Rattle.layout.specs.Layout.{lengths_from, roots_from, polynomial_from, factors_from}
 use Rattle.layout.proofs.RegionsLaws.{in_rows}
 
 -- past the first list

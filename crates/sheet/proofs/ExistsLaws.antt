@@ -27,7 +27,7 @@ use Rattle.rows.proofs.ShiftLaws.{root-power}
 use Rattle.rows.proofs.RowsLaws.{line-lt}
 use Rattle.rows.specs.Rows.{unit, monic}
 use Rattle.rows.proofs.MonicLaws.{monic-low, monic-top, monic-above, by_place}
-use Rattle.hensel.specs.Factors.{root_power, flat, product, split, IsFactors}
+use Rattle.hensel.specs.Factors.{root_power, flat, split, IsFactors}
 use Rattle.hensel.proofs.FactorsLaws.{product-rem, product_lt, monic-rem, factors-unique, roots_of, key, roots-rising}
 
 module _ {p : ℕ} (prime : Prime p) where

@@ -46,9 +46,13 @@ pub passed_on : (checks : Shape → List ℕ → List Check) (size : Shape → �
     → read_verdict s i ≡ Pass → f ≡ factor_shape s i → x ≡ factor_part s i
     → answer ≡ outcome_after (judge (checks f x)) (size f) → new ≡ written (judge (checks f x)) (over (words f x) old) old
     → let v = judge (read_checks s i ++ checks (factor_shape s i) (factor_part s i)) in
-    (answer ≡ outcome_after v (size (factor_shape s i))) × (new ≡ written v (over (words (factor_shape s i) (factor_part s i)) old) old)
+    record {
+      answer : answer ≡ outcome_after v (size (factor_shape s i));
+      words : new ≡ written v (over (words (factor_shape s i) (factor_part s i)) old) old;
+    }
 passed_on checks size words s i old new x answer f pass ef ex a w =
-    let t : judge (checks f x) ≡ judge (read_checks s i ++ checks (factor_shape s i) (factor_part s i)) = ap₂ (λ f x. judge (checks f x)) ef ex ∙ sym (after-pass (read_checks s i) _ pass) in (
-      a ∙ ap₂ (λ v f. outcome_after v (size f)) t ef,
-      w ∙ ap₂ (λ v r. written v (over r old) old) t (ap₂ words ef ex),
-    )
+    let t : judge (checks f x) ≡ judge (read_checks s i ++ checks (factor_shape s i) (factor_part s i)) = ap₂ (λ f x. judge (checks f x)) ef ex ∙ sym (after-pass (read_checks s i) _ pass) in
+    record {
+      answer = a ∙ ap₂ (λ v f. outcome_after v (size f)) t ef;
+      words = w ∙ ap₂ (λ v r. written v (over r old) old) t (ap₂ words ef ex);
+    }

@@ -23,7 +23,7 @@ use Rattle.numbers.specs.Limits.{largest_modulus, largest_degree, largest_width}
 use Rattle.series.specs.Known.{KnownTo}
 use Rattle.rows.specs.Rows.{unit}
 use Rattle.hensel.specs.Factors.{IsFactors}
-use Rattle.layout.specs.Layout.{header_of, modulus, degree, width, terms, count, lengths_from, roots_from, polynomial_from, factors_from, root, power, end, polynomial}
+use Rattle.layout.specs.Layout.{header_of, degree, width, terms, count, lengths_from, roots_from, polynomial_from, factors_from, end}
 use Rattle.sheet.specs.Sheet.{Sound}
 use Rattle.hensel.proofs.FactorsLaws.{factors-ext}
 use Rattle.layout.proofs.RegionsLaws.{in_rows, by-region}

@@ -22,7 +22,7 @@ use Rattle.numbers.proofs.DivisorLaws.{least-prime, prime-least}
 use Rattle.series.proofs.KnownLaws.{rows-known-test}
 use Rattle.hensel.specs.Factors.{IsFactors}
 use Rattle.numbers.specs.Words.{word}
-use Rattle.layout.specs.Layout.{modulus, degree, width, terms, power, root, known, lengths_from, polynomial, factor_rows}
+use Rattle.layout.specs.Layout.{modulus, degree, width, terms, known, lengths_from, polynomial, factor_rows}
 use Rattle.sheet.specs.Sheet.{Sound}
 use Rattle.sheet.specs.Test.{prime_test, factors_test, header_test, body_test, sound_test}
 use Rattle.sheet.specs.Reading.{sound_check}

@@ -6,7 +6,7 @@
 --   given-polynomial g its polynomial
 --   Holds g k s        s is a sound sheet that holds what open was given, with k terms
 -- Assumes nothing.
-use Rattle.std.specs.Prelude.{ℕ, ◌-◌, ◌≤◌, ◌<◌, ◌≡◌, List, length}
+use Rattle.std.specs.Prelude.{ℕ, ◌≤◌, ◌<◌, ◌≡◌, List, length}
 use Rattle.algebra.specs.Prime.{Prime}
 use Rattle.numbers.specs.Words.{word, tabulate, least}
 use Rattle.numbers.specs.Limits.{largest_modulus, largest_degree, largest_width}

@@ -23,7 +23,7 @@ pub struct Factor {
     pub power: u32,
 }
 
-#[derive(Clone, Copy)]
+#[derive(Drop)]
 pub enum FactorAnswer {
     Is(Factor),
     Refused(Refusal),

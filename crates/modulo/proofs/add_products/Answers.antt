@@ -2,7 +2,6 @@
 -- Assumes nothing.
 use native.Mathlib.Omega.{arith}
 use Rattle.columns.proofs.ColumnLaws.{product-fits}
-use borrow.Author.Rules.{rules}
 use Rattle.modulo.proofs.add_products.Goals as goal
 
 pub overflow_mul-result : goal.overflow_mul-result

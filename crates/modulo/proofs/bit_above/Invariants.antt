@@ -1,10 +1,7 @@
 -- `modulo::bit_above` meets its contract.
 -- Assumes nothing.
 use Prim.Native.Nat.{◌+◌, ◌-◌, ◌≤◌}
-use native.Mathlib.Omega.{arith}
-use Rattle.modulo.proofs.ProductLaws.{two-one, two-next}
 use Rattle.modulo.specs.internal.Modulo.{PowerOfTwo}
-use borrow.Author.Rules.{rules}
 use Rattle.modulo.proofs.bit_above.Given as goal
 
 abbrev pub invariant-loop-bit : goal.invariant-loop-bit

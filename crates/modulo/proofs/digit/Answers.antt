@@ -2,7 +2,6 @@
 -- Assumes nothing.
 use native.Mathlib.Omega.{arith}
 use Rattle.modulo.proofs.ProductLaws.{modulus-for, digit-none, digit-one}
-use borrow.Author.Rules.{rules}
 use Rattle.modulo.proofs.digit.Goals as goal
 
 pub times_plus-requires : goal.times_plus-requires

@@ -7,7 +7,6 @@ use Rattle.numbers.specs.internal.Facts.{AllBelow}
 use Rattle.modulo.specs.internal.Modulo.{ModulusOf}
 use Rattle.modulo.proofs.ProductLaws.{room-long, sums-lent, sums-fit, lent-long}
 use Rattle.modulo.proofs.SplitLaws.{frobenius-is}
-use borrow.Author.Rules.{rules}
 use Rattle.modulo.proofs.frobenius_of.Goals as goal
 
 pub slice_bounds-line_of-end : goal.slice_bounds-line_of-end

@@ -6,7 +6,6 @@ use lib.ListN.{length}
 use Rattle.numbers.proofs.WordsLaws.{length-tabulate}
 use Rattle.modulo.specs.internal.Modulo.{ModulusOf, plus}
 use Rattle.modulo.proofs.ProductLaws.{one_below, line-is}
-use borrow.Author.Rules.{rules}
 use Rattle.modulo.proofs.line_of.Goals as goal
 
 pub times_plus-requires : goal.times_plus-requires

@@ -5,7 +5,6 @@ use native.Mathlib.Omega.{arith}
 use lib.ListN.{length, take}
 use lib.Seq.{take_at}
 use Rattle.modulo.specs.internal.Modulo.{ModulusOf, Remainder, frobenius}
-use borrow.Author.Rules.{rules}
 use Rattle.modulo.proofs.may_split.Goals as goal
 use Rattle.modulo.proofs.may_split.Lts as step
 use Rattle.modulo.proofs.may_split.Reads as reads
@@ -26,9 +25,8 @@ pub slice_bounds-vanishes-end : goal.slice_bounds-vanishes-end
 slice_bounds-vanishes-end c = sym (ap length (copied c.before))
 
 pub vanishes-requires : goal.vanishes-requires
-vanishes-requires c =
-    (
-      c.requires.0,
-      subst (λ w. ModulusOf c.args.p c.args.f.now (length w)) (sym (copied c.before)) c.requires.1,
-      subst (Remainder c.args.p c.args.f.now (frobenius c.args.p)) (sym (copied c.before)) c.requires.2,
-    )
+vanishes-requires c = (
+  c.requires.0,
+  subst (λ w. ModulusOf c.args.p c.args.f.now (length w)) (sym (copied c.before)) c.requires.1,
+  subst (Remainder c.args.p c.args.f.now (frobenius c.args.p)) (sym (copied c.before)) c.requires.2,
+)

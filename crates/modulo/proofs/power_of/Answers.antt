@@ -1,10 +1,9 @@
 -- `modulo::power_of` meets its contract. The loop's invariant: the power by the digits of n down to that of `bit`.
 -- Assumes nothing.
-use Prim.Native.Nat.{◌/◌, ◌≤◌}
+use Prim.Native.Nat.{◌/◌}
 use native.Mathlib.Nat.{mod-lt}
 use native.Mathlib.Omega.{arith}
-use Rattle.modulo.proofs.ProductLaws.{modulus-for, Powering, powering-none, powering-step, powering-all}
-use borrow.Author.Rules.{rules}
+use Rattle.modulo.proofs.ProductLaws.{modulus-for, powering-none, powering-step, powering-all}
 use Rattle.modulo.proofs.power_of.Goals as goal
 
 pub loop-bit-init : goal.loop-bit-init

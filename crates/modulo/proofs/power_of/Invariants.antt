@@ -1,10 +1,7 @@
 -- `modulo::power_of` meets its contract. The loop's invariant: the power by the digits of n down to that of `bit`.
 -- Assumes nothing.
-use Prim.Native.Nat.{◌/◌, ◌≤◌}
-use native.Mathlib.Nat.{mod-lt}
-use native.Mathlib.Omega.{arith}
-use Rattle.modulo.proofs.ProductLaws.{modulus-for, Powering, powering-none, powering-step, powering-all}
-use borrow.Author.Rules.{rules}
+use Prim.Native.Nat.{◌≤◌}
+use Rattle.modulo.proofs.ProductLaws.{Powering}
 use Rattle.modulo.proofs.power_of.Given as goal
 
 abbrev pub invariant-loop-bit : goal.invariant-loop-bit

@@ -1,12 +1,11 @@
 -- `modulo::product_sums` meets its contract. The loop's invariant: the coefficients of a from i on, times b, are added up.
 -- Assumes nothing.
 use mathlib.Core.Path.{◌≡◌, subst}
-use Prim.Native.Nat.{◌-◌, ◌≤◌}
+use Prim.Native.Nat.{◌-◌}
 use native.Mathlib.Omega.{arith}
 use lib.ListN.{length}
 use Rattle.modulo.specs.internal.Modulo.{ModulusOf}
-use Rattle.modulo.proofs.ProductLaws.{Multiplying, multiplying-none, multiplying-small, multiplying-step, multiplying-all}
-use borrow.Author.Rules.{rules}
+use Rattle.modulo.proofs.ProductLaws.{multiplying-none, multiplying-small, multiplying-step, multiplying-all}
 use Rattle.modulo.proofs.product_sums.Goals as goal
 
 pub loop-i-init : goal.loop-i-init

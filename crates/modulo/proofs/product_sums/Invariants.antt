@@ -1,12 +1,8 @@
 -- `modulo::product_sums` meets its contract. The loop's invariant: the coefficients of a from i on, times b, are added up.
 -- Assumes nothing.
-use mathlib.Core.Path.{◌≡◌, subst}
-use Prim.Native.Nat.{◌-◌, ◌≤◌}
-use native.Mathlib.Omega.{arith}
+use Prim.Native.Nat.{◌≤◌}
 use lib.ListN.{length}
-use Rattle.modulo.specs.internal.Modulo.{ModulusOf}
-use Rattle.modulo.proofs.ProductLaws.{Multiplying, multiplying-none, multiplying-small, multiplying-step, multiplying-all}
-use borrow.Author.Rules.{rules}
+use Rattle.modulo.proofs.ProductLaws.{Multiplying}
 use Rattle.modulo.proofs.product_sums.Given as goal
 
 abbrev pub invariant-loop-i : goal.invariant-loop-i

@@ -5,7 +5,6 @@ use native.Mathlib.Omega.{arith}
 use lib.ListN.{length}
 use Rattle.modulo.specs.internal.Modulo.{ModulusOf}
 use Rattle.modulo.proofs.ProductLaws.{room-long, room-empty, sums-fit, lent-long, lent-reduce}
-use borrow.Author.Rules.{rules}
 use Rattle.modulo.proofs.square.Goals as goal
 
 pub slice_bounds-product_sums-end : goal.slice_bounds-product_sums-end

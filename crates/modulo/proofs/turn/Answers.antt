@@ -1,16 +1,13 @@
 -- `modulo::turn` meets its contract. The loop's invariant: from j on the words are those of the turn, before j the old ones.
 -- Assumes nothing.
-use mathlib.Core.Path.{◌≡◌, refl}
-use Prim.Native.Nat.{◌-◌, ◌%◌, ◌≤◌, ◌<◌}
+use mathlib.Core.Path.{refl}
+use Prim.Native.Nat.{◌-◌}
 use native.Mathlib.Nat.{mod-lt}
 use native.Mathlib.Omega.{arith}
 use lib.ListN.{length}
 use Rattle.numbers.specs.Words.{word}
-use Rattle.columns.proofs.ColumnLaws.{Sinking}
-use Rattle.modulo.specs.internal.Modulo.{turned_at}
 use Rattle.modulo.proofs.TurnLaws.{turn-word, turn-all}
 use Rattle.columns.proofs.ColumnLaws.{sinking-none}
-use borrow.Author.Rules.{rules}
 use Rattle.modulo.proofs.turn.Goals as goal
 
 pub overflow_cast-q-2 : goal.overflow_cast-q-2

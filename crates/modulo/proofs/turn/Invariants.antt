@@ -1,16 +1,11 @@
 -- `modulo::turn` meets its contract. The loop's invariant: from j on the words are those of the turn, before j the old ones.
 -- Assumes nothing.
-use mathlib.Core.Path.{◌≡◌, refl}
+use mathlib.Core.Path.{◌≡◌}
 use Prim.Native.Nat.{◌-◌, ◌%◌, ◌≤◌, ◌<◌}
-use native.Mathlib.Nat.{mod-lt}
-use native.Mathlib.Omega.{arith}
 use lib.ListN.{length}
 use Rattle.numbers.specs.Words.{word}
 use Rattle.columns.proofs.ColumnLaws.{Sinking}
 use Rattle.modulo.specs.internal.Modulo.{turned_at}
-use Rattle.modulo.proofs.TurnLaws.{turn-word, turn-all}
-use Rattle.columns.proofs.ColumnLaws.{sinking-none}
-use borrow.Author.Rules.{rules}
 use Rattle.modulo.proofs.turn.Given as goal
 
 abbrev pub invariant-loop-j : goal.invariant-loop-j

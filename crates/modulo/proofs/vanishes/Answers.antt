@@ -1,14 +1,10 @@
 -- `modulo::vanishes` meets its contract. The loop's invariant: the words are the n-th power of Y^p − Y.
 -- Assumes nothing.
-use mathlib.Core.Path.{◌≡◌, refl, ◌∙◌}
-use Prim.Native.Nat.{◌-◌, ◌≤◌}
+use mathlib.Core.Path.{refl, ◌∙◌}
 use native.Mathlib.Omega.{arith}
 use borrow.Author.Tests.{eqb-false}
-use lib.ListN.{length}
-use Rattle.modulo.specs.internal.Modulo.{Remainder, power, frobenius}
 use Rattle.modulo.proofs.ProductLaws.{sums-long, modulus-for}
 use Rattle.modulo.proofs.SplitLaws.{power-first, power-squared, test-fails}
-use borrow.Author.Rules.{rules}
 use Rattle.modulo.proofs.vanishes.Goals as goal
 
 pub loop-n-init : goal.loop-n-init

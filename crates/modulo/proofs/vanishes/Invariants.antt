@@ -1,14 +1,9 @@
 -- `modulo::vanishes` meets its contract. The loop's invariant: the words are the n-th power of Y^p − Y.
 -- Assumes nothing.
-use mathlib.Core.Path.{◌≡◌, refl, ◌∙◌}
+use mathlib.Core.Path.{◌≡◌}
 use Prim.Native.Nat.{◌-◌, ◌≤◌}
-use native.Mathlib.Omega.{arith}
-use borrow.Author.Tests.{eqb-false}
 use lib.ListN.{length}
 use Rattle.modulo.specs.internal.Modulo.{Remainder, power, frobenius}
-use Rattle.modulo.proofs.ProductLaws.{sums-long, modulus-for}
-use Rattle.modulo.proofs.SplitLaws.{power-first, power-squared, test-fails}
-use borrow.Author.Rules.{rules}
 use Rattle.modulo.proofs.vanishes.Given as goal
 
 abbrev pub invariant-loop-n : goal.invariant-loop-n
