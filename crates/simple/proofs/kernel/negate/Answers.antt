@@ -1,0 +1,23 @@
+-- `simple::kernel::negate` meets its contract. The invariant: the first i words are negated.
+-- Assumes nothing.
+use Prim.Native.Nat.{◌≤◌, ◌-◌, ◌%◌}
+use mathlib.Core.Path.{refl, ◌∙◌}
+use native.Mathlib.Omega.{arith}
+use lib.ListN.{length}
+use borrow.Author.Rules.{rules}
+use Rattle.numbers.specs.Words.{word, tabulate}
+use Rattle.numbers.proofs.WordsLaws.{Writing, writing-none, writing-next, writing-all, length-tabulate, over-whole}
+use Rattle.simple.proofs.kernel.negate.Goals as goal
+
+pub loop-i-init : goal.loop-i-init
+unfolding tabulate
+loop-i-init c = (omega arith, writing-none _)
+
+pub overflow_sub-out : goal.overflow_sub-out
+overflow_sub-out c = let z = c.requires.1 c.loop-i.i (omega arith) in omega arith
+
+pub loop-i-preserved : goal.loop-i-preserved
+loop-i-preserved c = let l = c.loop-i in (omega arith, writing-next l.i _ _ _ _ l.invariant.1 refl (omega arith))
+
+pub returns : goal.returns
+returns c = writing-all _ (length c.args.words.now) _ _ _ c.loop-i.invariant.1 (omega arith) ∙ over-whole _ _ (length-tabulate _ _ ∙ omega arith)
