@@ -3,7 +3,6 @@
 use mathlib.Core.Path.{◌≡◌, ◌∙◌, sym, subst}
 use mathlib.Core.Bool.{true}
 use native.Mathlib.Omega.{arith}
-use borrow.Author.Tests.{not-true, not-false}
 use Rattle.numbers.proofs.RefusalsLaws.{not-pass}
 use Rattle.layout.specs.Layout.{degree, known}
 use Rattle.front.proofs.FrontLaws.{shape-placed}
@@ -11,7 +10,6 @@ use Rattle.sheet.specs.Sheet.{Sound}
 use Rattle.sheet.specs.internal.Stages.{Computed}
 use Rattle.correct.specs.Correct.{is_entry}
 use Rattle.correct.proofs.CorrectTotalLaws.{correct-spoiled, correct-nowhere, correct-large, correct-passes}
-use borrow.Author.Rules.{rules}
 use Rattle.correct.proofs.check_correct.Goals as goal
 use Rattle.correct.proofs.check_correct.Lts as step
 use Rattle.correct.proofs.check_correct.Reads as reads

@@ -7,7 +7,6 @@ use Rattle.numbers.specs.Refusals.{outcome}
 use Rattle.numbers.proofs.RefusalsLaws.{leave-refused}
 use Rattle.sheet.proofs.SoundStagesLaws.{sound-front}
 use Rattle.correct.proofs.CorrectTotalLaws.{correct-spoiled}
-use borrow.Author.Rules.{rules}
 use Rattle.correct.proofs.correct.Goals as goal
 
 pub returns-then-size-eq0 : goal.returns-then-size-eq0

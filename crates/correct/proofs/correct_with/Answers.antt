@@ -3,7 +3,6 @@
 use mathlib.Core.Path.{sym, ◌∙◌}
 use Rattle.numbers.proofs.RefusalsLaws.{leave-refused, leave-done}
 use Rattle.correct.proofs.CorrectTotalLaws.{Able, correct-able, enter-ready, again-ready, entered-done}
-use borrow.Author.Rules.{rules}
 use Rattle.correct.proofs.correct_with.Goals as goal
 use Rattle.correct.proofs.correct_with.Lts as step
 use Rattle.correct.proofs.correct_with.Reads as reads

@@ -4,7 +4,6 @@ use mathlib.Core.Path.{sym, ◌∙◌, ap}
 use native.Mathlib.Omega.{arith}
 use lib.Dec.{ltb}
 use Rattle.correct.proofs.CorrectTotalLaws.{no_row, no-column, by_length}
-use borrow.Author.Rules.{rules}
 use Rattle.correct.proofs.is_entry.Goals as goal
 
 pub returns-then-read_header-j : goal.returns-then-read_header-j

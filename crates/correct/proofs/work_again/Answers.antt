@@ -2,7 +2,6 @@
 -- Assumes nothing.
 use native.Mathlib.Omega.{arith}
 use Rattle.correct.proofs.CorrectTotalLaws.{worked}
-use borrow.Author.Rules.{rules}
 use Rattle.correct.proofs.work_again.Goals as goal
 
 pub returns-then-t-k : goal.returns-then-t-k

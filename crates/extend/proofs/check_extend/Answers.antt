@@ -3,14 +3,12 @@
 use mathlib.Core.Path.{◌≡◌, ◌∙◌, sym, ap, subst}
 use Prim.Native.Nat.{◌≤◌}
 use native.Mathlib.Omega.{arith}
-use borrow.Author.Tests.{not-true, not-false}
 use Rattle.numbers.specs.Words.{outside}
 use Rattle.numbers.proofs.RefusalsLaws.{not-pass, inside}
 use Rattle.layout.specs.Layout.{reach}
 use Rattle.sheet.specs.Sheet.{Sound}
 use Rattle.sheet.specs.internal.Stages.{Computed}
 use Rattle.extend.proofs.ExtendTotalLaws.{extend-spoiled, extend-outside, extend-behind, extend-reached}
-use borrow.Author.Rules.{rules}
 use Rattle.extend.proofs.check_extend.Goals as goal
 use Rattle.extend.proofs.check_extend.Lts as step
 use Rattle.extend.proofs.check_extend.Reads as reads

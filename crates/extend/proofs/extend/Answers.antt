@@ -7,7 +7,6 @@ use Rattle.numbers.specs.Refusals.{outcome}
 use Rattle.numbers.proofs.RefusalsLaws.{leave-refused}
 use Rattle.sheet.proofs.SoundStagesLaws.{sound-front}
 use Rattle.extend.proofs.ExtendTotalLaws.{extend-spoiled}
-use borrow.Author.Rules.{rules}
 use Rattle.extend.proofs.extend.Goals as goal
 
 pub returns-then-size-eq0 : goal.returns-then-size-eq0

@@ -6,7 +6,6 @@ use Rattle.numbers.proofs.RefusalsLaws.{leave-refused, leave-done}
 use Rattle.extend.specs.Extend.{extend_verdict}
 use Rattle.extend.proofs.ExtendTotalLaws.{extend-able}
 use Rattle.extend.proofs.ExtendingLaws.{stored-done}
-use borrow.Author.Rules.{rules}
 use Rattle.extend.proofs.extend_with.Goals as goal
 use Rattle.extend.proofs.extend_with.Lts as step
 use Rattle.extend.proofs.extend_with.Reads as reads

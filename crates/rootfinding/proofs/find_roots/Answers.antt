@@ -2,7 +2,6 @@
 -- Assumes nothing.
 use native.Mathlib.Omega.{arith}
 use lib.ListN.{length-take}
-use borrow.Author.Rules.{rules}
 use Rattle.rootfinding.proofs.find_roots.Goals as goal
 
 pub slice_bounds-find_with-end : goal.slice_bounds-find_with-end

@@ -4,7 +4,6 @@ use mathlib.Core.Path.{◌≡◌, ◌∙◌, sym, ap}
 use native.Mathlib.Omega.{arith}
 use Rattle.numbers.specs.Refusals.{refusal}
 use Rattle.numbers.specs.declared.refusal.Verdict.TheVariants.{Pass, Refuse}
-use borrow.Author.Tests.{not-true, not-false}
 use Rattle.numbers.proofs.WordsLaws.{true-false}
 use Rattle.layout.proofs.PlacesLaws.{placed-entries}
 use Rattle.sheet.specs.Sheet.{Sound}
@@ -12,7 +11,6 @@ use Rattle.sheet.proofs.SoundTestLaws.{sound-test}
 use Rattle.sheet.proofs.ReadingLaws.{sound-placed}
 use Rattle.simple.specs.internal.Factors.{multiple_verdict}
 use Rattle.simple.proofs.SimpleLaws.{simple-spoiled, simple-multiple, simple-short, simple-fine, header-words, words-few}
-use borrow.Author.Rules.{rules}
 use Rattle.simple.proofs.check_simple.Goals as goal
 use Rattle.simple.proofs.check_simple.Lts as step
 use Rattle.simple.proofs.check_simple.Reads as reads

@@ -12,7 +12,6 @@ use Rattle.layout.proofs.PlacesLaws.{placed-entries}
 use Rattle.sheet.proofs.ReadingLaws.{sound-placed}
 use Rattle.simple.specs.Simple.{RootsDone}
 use Rattle.simple.proofs.SimpleLaws.{Simple, simple-pass, header-words, words-few}
-use borrow.Author.Rules.{rules}
 use Rattle.simple.proofs.simple_roots.Goals as goal
 use Rattle.simple.proofs.simple_roots.Lts as step
 use Rattle.simple.proofs.simple_roots.Reads as reads

@@ -4,7 +4,6 @@ use mathlib.Core.Path.{sym}
 use native.Mathlib.Omega.{arith}
 use lib.Seq.{length-take-le}
 use Rattle.rootfinding.proofs.FoundLaws.{found-checked, found-scanned}
-use borrow.Author.Rules.{rules}
 use Rattle.rootfinding.proofs.finding.by_scan.Goals as goal
 
 pub slice_bounds-certify-end-2 : goal.slice_bounds-certify-end-2

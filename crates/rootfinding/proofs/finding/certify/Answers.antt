@@ -3,14 +3,12 @@
 use mathlib.Core.Path.{◌≡◌, sym, ◌∙◌, ap, ap₂, subst}
 use Prim.Native.Nat.{◌-◌}
 use native.Mathlib.Omega.{arith}
-use borrow.Author.Tests.{not-true, not-false}
 use lib.ListN.{length, take}
 use Rattle.numbers.specs.Words.{word}
 use Rattle.numbers.specs.internal.Facts.{AllBelow, Rising}
 use Rattle.numbers.proofs.WordsLaws.{none-large}
 use Rattle.numbers.proofs.TestsLaws.{rising-are}
 use Rattle.rootfinding.proofs.FoundLaws.{over-take, answer-large, answer-falling, answer-found}
-use borrow.Author.Rules.{rules}
 use Rattle.rootfinding.proofs.finding.certify.Goals as goal
 use Rattle.rootfinding.proofs.finding.certify.Lts as step
 use Rattle.rootfinding.proofs.finding.certify.Reads as reads

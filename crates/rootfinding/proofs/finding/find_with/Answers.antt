@@ -2,10 +2,8 @@
 -- Assumes nothing.
 use mathlib.Core.Path.{sym}
 use native.Mathlib.Omega.{arith}
-use borrow.Author.Tests.{not-true}
 use lib.Seq.{length-take-le}
 use Rattle.rootfinding.proofs.FoundLaws.{monic-modulus, found-unsplit, found-checked}
-use borrow.Author.Rules.{rules}
 use Rattle.rootfinding.proofs.finding.find_with.Goals as goal
 
 pub frobenius_of-requires : goal.frobenius_of-requires
@@ -33,4 +31,4 @@ pub returns-then-certify : goal.returns-then-certify
 returns-then-certify c =
     let s = c in
     let few = c.candidates-n.ensures in
-    found-checked s.args.p s.args.e.now s.pre.0 c.candidates-n.result _ _ _ c.certify.ensures (omega arith) c.if-certify.true
+    found-checked s.args.p s.args.e.now s.requires.0 c.candidates-n.result _ _ _ c.certify.ensures (omega arith) c.if-certify.true

@@ -7,7 +7,6 @@ use native.Mathlib.Omega.{arith}
 use lib.ListN.{length}
 use Rattle.rootfinding.specs.Roots.{is_root}
 use Rattle.rootfinding.proofs.ScanLaws.{root-yes, root-no, keep-yes, keep-no}
-use borrow.Author.Rules.{rules}
 use Rattle.rootfinding.proofs.scan.keep.Goals as goal
 use Rattle.rootfinding.proofs.scan.keep.Lts as step
 use Rattle.rootfinding.proofs.scan.keep.Reads as reads

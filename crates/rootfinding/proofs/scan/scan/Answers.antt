@@ -1,9 +1,7 @@
 -- `rootfinding::scan::scan` meets its contract. The loop's invariant is `Scanning`.
 -- Assumes nothing.
-use Prim.Native.Nat.{◌≤◌, ◌-◌}
 use native.Mathlib.Omega.{arith}
-use Rattle.rootfinding.proofs.ScanLaws.{Scanning, scanning-none, scanning-room, scanning-next, scanning-all}
-use borrow.Author.Rules.{rules}
+use Rattle.rootfinding.proofs.ScanLaws.{scanning-none, scanning-room, scanning-next, scanning-all}
 use Rattle.rootfinding.proofs.scan.scan.Goals as goal
 
 pub loop-c-init : goal.loop-c-init

@@ -1,9 +1,7 @@
 -- `rootfinding::scan::scan` meets its contract. The loop's invariant is `Scanning`.
 -- Assumes nothing.
 use Prim.Native.Nat.{◌≤◌, ◌-◌}
-use native.Mathlib.Omega.{arith}
-use Rattle.rootfinding.proofs.ScanLaws.{Scanning, scanning-none, scanning-room, scanning-next, scanning-all}
-use borrow.Author.Rules.{rules}
+use Rattle.rootfinding.proofs.ScanLaws.{Scanning}
 use Rattle.rootfinding.proofs.scan.scan.Given as goal
 
 abbrev pub invariant-loop-c : goal.invariant-loop-c

@@ -3,7 +3,6 @@
 use native.Mathlib.Omega.{arith}
 use lib.ListN.{length-take}
 use Rattle.rootfinding.proofs.SearchLaws.{fewer}
-use borrow.Author.Rules.{rules}
 use Rattle.rootfinding.proofs.search.candidates.Goals as goal
 
 pub slice_bounds-copy-length : goal.slice_bounds-copy-length

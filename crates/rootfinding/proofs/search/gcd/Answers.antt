@@ -1,10 +1,7 @@
 -- `rootfinding::search::gcd` meets its contract. The loop's invariant: counts and places stay within the words.
 -- Assumes nothing.
-use mathlib.Core.Path.{◌≡◌}
-use Prim.Native.Nat.{◌≤◌}
 use native.Mathlib.Omega.{arith}
-use lib.ListN.{length, length-take}
-use borrow.Author.Rules.{rules}
+use lib.ListN.{length-take}
 use Rattle.rootfinding.proofs.search.gcd.Goals as goal
 
 pub slice_bounds-copy-end-then-n-lt1 : goal.slice_bounds-copy-end-then-n-lt1

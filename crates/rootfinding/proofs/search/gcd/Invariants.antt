@@ -2,9 +2,7 @@
 -- Assumes nothing.
 use mathlib.Core.Path.{◌≡◌}
 use Prim.Native.Nat.{◌≤◌}
-use native.Mathlib.Omega.{arith}
-use lib.ListN.{length, length-take}
-use borrow.Author.Rules.{rules}
+use lib.ListN.{length}
 use Rattle.rootfinding.proofs.search.gcd.Given as goal
 
 abbrev pub invariant-loop-m : goal.invariant-loop-m

@@ -1,13 +1,12 @@
 -- `rootfinding::search::make_monic` meets its contract. The loop's invariant: counts and places stay within the words.
 -- Assumes nothing.
-use mathlib.Core.Path.{◌≡◌, sym, ◌∙◌}
+use mathlib.Core.Path.{sym, ◌∙◌}
 use Prim.Native.Nat.{◌≤◌, ◌-◌, ◌*◌}
 use native.Mathlib.Nat.{mod-lt, mul-le-mul}
-use lib.ListN.{length, length-set}
+use lib.ListN.{length-set}
 use native.Mathlib.Omega.{arith}
 use Rattle.numbers.specs.Words.{word}
 use Rattle.numbers.proofs.RefusalsLaws.{inside}
-use borrow.Author.Rules.{rules}
 use Rattle.rootfinding.proofs.search.make_monic.Goals as goal
 
 pub inverse_of-w-requires : goal.inverse_of-w-requires

@@ -1,13 +1,8 @@
 -- `rootfinding::search::make_monic` meets its contract. The loop's invariant: counts and places stay within the words.
 -- Assumes nothing.
-use mathlib.Core.Path.{◌≡◌, sym, ◌∙◌}
-use Prim.Native.Nat.{◌≤◌, ◌-◌, ◌*◌}
-use native.Mathlib.Nat.{mod-lt, mul-le-mul}
-use lib.ListN.{length, length-set}
-use native.Mathlib.Omega.{arith}
-use Rattle.numbers.specs.Words.{word}
-use Rattle.numbers.proofs.RefusalsLaws.{inside}
-use borrow.Author.Rules.{rules}
+use mathlib.Core.Path.{◌≡◌}
+use Prim.Native.Nat.{◌≤◌, ◌-◌}
+use lib.ListN.{length}
 use Rattle.rootfinding.proofs.search.make_monic.Given as goal
 
 abbrev pub invariant-loop-j : goal.invariant-loop-j

@@ -5,7 +5,6 @@ use native.Mathlib.Omega.{arith}
 use lib.ListN.{length-take, length-set}
 use Rattle.numbers.proofs.WordsLaws.{none-large}
 use Rattle.rootfinding.proofs.SearchLaws.{piece-modulus}
-use borrow.Author.Rules.{rules}
 use Rattle.rootfinding.proofs.search.part.Goals as goal
 
 pub slice_bounds-f-end : goal.slice_bounds-f-end

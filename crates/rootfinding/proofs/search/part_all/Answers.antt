@@ -1,12 +1,7 @@
 -- `rootfinding::search::part_all` meets its contract. The loop's invariant: counts and places stay within the words.
 -- Assumes nothing.
-use mathlib.Core.Path.{◌≡◌}
-use Prim.Native.Nat.{◌≤◌, ◌-◌}
 use native.Mathlib.Nat.{mod-lt}
 use native.Mathlib.Omega.{arith}
-use lib.ListN.{length}
-use Rattle.numbers.specs.Limits.{largest_degree}
-use borrow.Author.Rules.{rules}
 use Rattle.rootfinding.proofs.search.part_all.Goals as goal
 
 pub step-o-requires : goal.step-o-requires

@@ -2,11 +2,8 @@
 -- Assumes nothing.
 use mathlib.Core.Path.{◌≡◌}
 use Prim.Native.Nat.{◌≤◌, ◌-◌}
-use native.Mathlib.Nat.{mod-lt}
-use native.Mathlib.Omega.{arith}
 use lib.ListN.{length}
 use Rattle.numbers.specs.Limits.{largest_degree}
-use borrow.Author.Rules.{rules}
 use Rattle.rootfinding.proofs.search.part_all.Given as goal
 
 abbrev pub invariant-loop-steps : goal.invariant-loop-steps

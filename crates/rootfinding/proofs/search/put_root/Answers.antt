@@ -1,10 +1,6 @@
 -- `rootfinding::search::put_root` meets its contract. The loop's invariant: counts and places stay within the words.
 -- Assumes nothing.
-use mathlib.Core.Path.{◌≡◌}
-use Prim.Native.Nat.{◌≤◌}
-use lib.ListN.{length}
 use native.Mathlib.Omega.{arith}
-use borrow.Author.Rules.{rules}
 use Rattle.rootfinding.proofs.search.put_root.Goals as goal
 
 pub overflow_cast-roots : goal.overflow_cast-roots

@@ -3,8 +3,6 @@
 use mathlib.Core.Path.{◌≡◌}
 use Prim.Native.Nat.{◌≤◌}
 use lib.ListN.{length}
-use native.Mathlib.Omega.{arith}
-use borrow.Author.Rules.{rules}
 use Rattle.rootfinding.proofs.search.put_root.Given as goal
 
 abbrev pub invariant-loop-j : goal.invariant-loop-j

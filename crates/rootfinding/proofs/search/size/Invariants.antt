@@ -2,7 +2,6 @@
 -- Assumes nothing.
 use Prim.Native.Nat.{◌≤◌}
 use lib.ListN.{length}
-use borrow.Author.Rules.{rules}
 use Rattle.rootfinding.proofs.search.size.Given as goal
 
 abbrev pub invariant-loop-n : goal.invariant-loop-n

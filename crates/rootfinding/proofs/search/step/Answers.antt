@@ -5,7 +5,6 @@ use native.Mathlib.Omega.{arith}
 use lib.ListN.{drop, length-set}
 use Rattle.numbers.specs.Words.{word}
 use Rattle.rootfinding.proofs.SearchLaws.{within}
-use borrow.Author.Rules.{rules}
 use Rattle.rootfinding.proofs.search.step.Goals as goal
 
 pub bounds-sizes-o-3 : goal.bounds-sizes-o-3

@@ -7,7 +7,6 @@ use Rattle.numbers.specs.declared.refusal.Verdict.TheVariants.{Refuse}
 use Rattle.layout.proofs.PlacesLaws.{placed-entries}
 use Rattle.sheet.proofs.ReadingLaws.{sound-placed}
 use Rattle.simple.proofs.SimpleLaws.{multiple-there, multiple-none}
-use borrow.Author.Rules.{rules}
 use Rattle.simple.proofs.kernel.check_multiple.Goals as goal
 
 pub read_header-h-requires : goal.read_header-h-requires

@@ -1,10 +1,9 @@
 -- `simple::kernel::first_multiple` meets its contract. The invariant: the powers before i are 1.
 -- Assumes nothing.
-use Prim.Native.Nat.{ℕ, ◌≤◌, ◌<◌, ◌-◌}
+use Prim.Native.Nat.{◌≤◌}
 use native.Mathlib.Omega.{arith}
 use borrow.Author.Count.{below_more}
-use borrow.Author.Rules.{rules}
-use Rattle.layout.specs.Layout.{count, power}
+use Rattle.layout.specs.Layout.{power}
 use Rattle.layout.proofs.PlacesLaws.{placed-entries}
 use Rattle.sheet.proofs.ReadingLaws.{sound-placed}
 use Rattle.simple.proofs.SimpleLaws.{multiple-is}

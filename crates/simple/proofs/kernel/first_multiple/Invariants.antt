@@ -1,13 +1,7 @@
 -- `simple::kernel::first_multiple` meets its contract. The invariant: the powers before i are 1.
 -- Assumes nothing.
 use Prim.Native.Nat.{ℕ, ◌≤◌, ◌<◌, ◌-◌}
-use native.Mathlib.Omega.{arith}
-use borrow.Author.Count.{below_more}
-use borrow.Author.Rules.{rules}
 use Rattle.layout.specs.Layout.{count, power}
-use Rattle.layout.proofs.PlacesLaws.{placed-entries}
-use Rattle.sheet.proofs.ReadingLaws.{sound-placed}
-use Rattle.simple.proofs.SimpleLaws.{multiple-is}
 use Rattle.simple.proofs.kernel.first_multiple.Given as goal
 
 abbrev pub invariant-loop-i : goal.invariant-loop-i

@@ -1,12 +1,10 @@
 -- `simple::kernel::negate` meets its contract. The invariant: the first i words are negated.
 -- Assumes nothing.
-use Prim.Native.Nat.{◌≤◌, ◌-◌, ◌%◌}
 use mathlib.Core.Path.{refl, ◌∙◌}
 use native.Mathlib.Omega.{arith}
 use lib.ListN.{length}
-use borrow.Author.Rules.{rules}
-use Rattle.numbers.specs.Words.{word, tabulate}
-use Rattle.numbers.proofs.WordsLaws.{Writing, writing-none, writing-next, writing-all, length-tabulate, over-whole}
+use Rattle.numbers.specs.Words.{tabulate}
+use Rattle.numbers.proofs.WordsLaws.{writing-none, writing-next, writing-all, length-tabulate, over-whole}
 use Rattle.simple.proofs.kernel.negate.Goals as goal
 
 pub loop-i-init : goal.loop-i-init

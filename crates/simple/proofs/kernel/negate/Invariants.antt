@@ -1,12 +1,9 @@
 -- `simple::kernel::negate` meets its contract. The invariant: the first i words are negated.
 -- Assumes nothing.
 use Prim.Native.Nat.{◌≤◌, ◌-◌, ◌%◌}
-use mathlib.Core.Path.{refl, ◌∙◌}
-use native.Mathlib.Omega.{arith}
 use lib.ListN.{length}
-use borrow.Author.Rules.{rules}
 use Rattle.numbers.specs.Words.{word, tabulate}
-use Rattle.numbers.proofs.WordsLaws.{Writing, writing-none, writing-next, writing-all, length-tabulate, over-whole}
+use Rattle.numbers.proofs.WordsLaws.{Writing}
 use Rattle.simple.proofs.kernel.negate.Given as goal
 
 abbrev pub invariant-loop-i : goal.invariant-loop-i

@@ -4,7 +4,6 @@ use native.Mathlib.Omega.{arith}
 use Rattle.layout.proofs.PlacesLaws.{placed-entries}
 use Rattle.sheet.proofs.ReadingLaws.{sound-placed}
 use Rattle.simple.proofs.SimpleLaws.{negate-ready, negated-roots}
-use borrow.Author.Rules.{rules}
 use Rattle.simple.proofs.kernel.write_roots.Goals as goal
 
 pub read_header-h-requires : goal.read_header-h-requires
