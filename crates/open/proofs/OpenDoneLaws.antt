@@ -1,7 +1,6 @@
 -- From the verdict of the checks to the answer of a call that opens a sheet.
 --   powers-first, powers-fit   the powers found, at the front of an array
 --   finish-ready      what finishing needs
---   left-done         an accepted call left what its conditions say
 --   opened-refused    a refusal leaves the slice as it was
 --   opened-finished   powers found: what is left by the room that there is, refusal 10 or the sheet
 -- Assumes nothing.
@@ -15,13 +14,13 @@ use borrow.Author.Tests.{ltb-false}
 use lib.ListN.{length, take, length-append}
 use lib.Seq.{take_at}
 use Rattle.numbers.specs.Words.{over}
-use Rattle.numbers.specs.Refusals.{Outcome, accepted, refused, outcome_after, written, room_check, Leaves}
+use Rattle.numbers.specs.Refusals.{Outcome, refused, outcome_after, written, room_check, Leaves}
 use Rattle.numbers.specs.declared.refusal.Refusal.{Refusal}
 use Rattle.numbers.specs.declared.refusal.Verdict.{Verdict}
 use Rattle.numbers.specs.declared.refusal.Verdict.TheVariants.{Pass, Refuse}
-use Rattle.numbers.proofs.RefusalsLaws.{pass-check, accepted-pass}
+use Rattle.numbers.proofs.RefusalsLaws.{pass-check}
 use Rattle.sheet.specs.Sheet.{Given, whole_of}
-use Rattle.open.specs.Open.{powers_of, needed, SheetDone, SheetBy, OpenDone, OpenedBy}
+use Rattle.open.specs.Open.{powers_of, needed, OpenDone, OpenedBy}
 use Rattle.open.specs.internal.Opening.{PowersAnswer}
 use Rattle.open.specs.internal.Writing.{fresh_words, FreshReady, room_verdict, Finished}
 use Rattle.open.proofs.OpenChecksLaws.{ListPass}
@@ -43,11 +42,6 @@ module _ (g : Given) (found : Bool) (l rest : List ℕ) (a : PowersAnswer (whole
 pub finish-ready : (g : Given) → ListPass g → (l : List ℕ) → powers_of g ≡ some l
     → FreshReady g l × (length g.rows ≡ (g.D + 1) * g.N) × (length g.lengths ≡ g.D) × (length l ≡ length g.roots)
 finish-ready g h l e = (ready-fresh g l e (list-ready g h l e), h.rows.polynomial.long, h.rows.polynomial.lengths-long, found-count g l e)
-
-pub left-done : (v : Verdict) (g : Given) (k : ℕ) (old new : List ℕ) (T : ℕ) → SheetBy v g k old (accepted T) new → SheetDone g k old new T
-left-done v g k old new T x =
-    let (e, t) = accepted-pass v (needed g) T x.answers in
-    subst (SheetDone g k old new) (sym t) (subst (λ v. Leaves v (SheetDone g k old new (needed g)) old new) e x.leaves)
 
 pub opened-refused : (v : Verdict) (g : Given) (old : List ℕ) (r : Refusal) (a : Outcome ℕ) → a ≡ refused r.number r.detail → v ≡ Refuse r → OpenedBy v g old a old
 opened-refused v g old r a is e = record {

@@ -1,35 +1,37 @@
--- For every input the contract of a call that writes a sheet allows exactly one answer and one content of the slice.
---   sheet-by-one    whatever the checks are that let only what is ready pass
---   opened-by-one   so where it is opened
---   opened_one      and so open
+-- For every input the contract of a call that opens a sheet allows exactly one answer and one content of the slice.
+--   opened-by-one   whatever the checks are that let only what is ready pass
+--   opened_one      so open
 -- Assumes nothing.
 use Prim.Native.Nat.{ℕ, ◌≤◌}
-use native.Mathlib.Omega.{arith}
-use mathlib.Core.Path.{◌≡◌}
+use mathlib.Core.Path.{◌≡◌, refl, sym, subst, ap₂}
+use mathlib.Core.Logic.{◌↔◌}
 use mathlib.Core.List.{List}
 use lib.ListN.{length}
-use Rattle.numbers.specs.Words.{word, over}
+use Rattle.numbers.specs.Words.{over}
+use Rattle.numbers.specs.Refusals.{Outcome, outcome_after, written, Leaves}
 use Rattle.numbers.specs.declared.refusal.Verdict.{Verdict}
-use Rattle.numbers.specs.declared.refusal.Verdict.TheVariants.{Pass}
+use Rattle.numbers.specs.declared.refusal.Verdict.TheVariants.{Pass, Refuse}
 use Rattle.numbers.specs.One.{OneOutcome}
-use Rattle.numbers.proofs.OneLaws.{verdict-one}
-use Rattle.numbers.proofs.WordsLaws.{least-from}
-use Rattle.sheet.specs.Sheet.{Given, given-reach}
-use Rattle.open.specs.Open.{needed, open_verdict, SheetDone, SheetBy, OpenedBy, Opened}
-use Rattle.open.proofs.OpeningLaws.{GivenReady, open-ready, sheet-exists, sheet-over, sheet-only}
+use Rattle.sheet.specs.Sheet.{Given}
+use Rattle.open.specs.Open.{needed, open_verdict, OpenDone, OpenedBy, Opened}
+use Rattle.open.proofs.OpeningLaws.{GivenReady, open-ready, open_words, open_done, open-only}
 
-pub sheet-by-one : (v : Verdict) (g : Given) (k : ℕ) (old : List ℕ) → (v ≡ Pass → GivenReady g × (1 ≤ k) × (k ≤ given-reach g) × (needed g ≤ length old)) → OneOutcome (SheetBy v g k old)
-sheet-by-one v g k old ready =
-    verdict-one (SheetBy v g k old) v (needed g) (λ new. SheetDone g k old new (needed g)) old (λ a new. (λ x. (x.answers, x.leaves), λ e. record { answers = e.0; leaves = e.1 }))
-    (λ e.
-    let (h, low, high, fits) = ready e in
-    let one = sheet-exists g h k low high in
-    let d = sheet-over g k old one.words one.holds one.long fits in
-    (over one.words old, record { is = d; only = λ new x. sheet-only g k old new _ x d }))
+module _ (verdict : Verdict) (g : Given) (old : List ℕ) (ready : verdict ≡ Pass → GivenReady g × (needed g ≤ length old)) where
+  -- the contract as two equations
+  opened-is : (a : Outcome ℕ) (new : List ℕ) → OpenedBy verdict g old a new ↔ ((a ≡ outcome_after verdict (needed g)) × (new ≡ written verdict (over (open_words g) old) old))
+  opened-is a new = (λ x. (x.answers, (go verdict refl).0 x.leaves), λ e. record { answers = e.0; leaves = (go verdict refl).1 e.1 })
+    where
+      go : (v : Verdict) → verdict ≡ v → Leaves v (OpenDone g old new (needed g)) old new ↔ (new ≡ written v (over (open_words g) old) old)
+      go Pass e =
+          let h = ready e in
+          (open-only g old h.0 h.1 new, λ q. subst (λ n. OpenDone g old n (needed g)) (sym q) (open_done g old h.0 h.1))
+      go (Refuse r) e = (λ q. q, λ q. q)
 
--- with one term, which every polynomial is known to
-pub opened-by-one : (v : Verdict) (g : Given) (old : List ℕ) → (v ≡ Pass → GivenReady g × (needed g ≤ length old)) → OneOutcome (OpenedBy v g old)
-opened-by-one v g old ready = sheet-by-one v g 1 old (λ e. let (h, fits) = ready e in (h, omega arith, least-from g.N (word g.lengths) 1 g.D h.width_low (λ j l. (h.lengths j l).low), fits))
+  pub opened-by-one : OneOutcome (OpenedBy verdict g old)
+  opened-by-one = (
+    (outcome_after verdict (needed g), written verdict (over (open_words g) old) old),
+    record { is = (opened-is _ _).1 (refl, refl); only = λ y x. let z = (opened-is y.0 y.1).0 x in ap₂ (λ a s. (a, s)) z.0 z.1 },
+  )
 
 pub opened_one : (g : Given) (old : List ℕ) → OneOutcome (Opened g old)
 opened_one g old = opened-by-one (open_verdict g (length old)) g old (open-ready g (length old))

@@ -4,10 +4,9 @@
 --   column-opens    other rows are accepted that pass checks 1 to 8, and 21, and are the same at X = 0
 --   list-ready, open-ready   what the checks of open leave: all that open needs
 --   sheet-exists    for what an accepted open was given there is exactly one sound sheet with k terms, for every k from 1 to the least known length
---   sheet-over      the words of a sheet with k terms, over the first of a slice, are what a call that writes it is to leave ..
---   sheet-only      .. and no others are
 --   open_words g     what open writes: with one term factor i is (Y − c_i)^(m_i)
---   open_done       open's conditions hold of these words over the old ones
+--   open_done       open's conditions hold of these words over the old ones ..
+--   open-only       .. and of no others
 -- Assumes nothing.
 use Prim.Native.Nat.{ℕ, ◌+◌, ◌*◌, ◌≤◌, ◌<◌}
 use native.Mathlib.Omega.{arith}
@@ -23,17 +22,15 @@ use Rattle.numbers.specs.Refusals.{Check, check, judge, room_check}
 use Rattle.numbers.specs.declared.refusal.Verdict.TheVariants.{Pass}
 use Rattle.numbers.proofs.WordsLaws.{length_over}
 use Rattle.numbers.proofs.TestsLaws.{all_to-ext}
-use Rattle.numbers.proofs.RefusalsLaws.{pass-parts, pass-check, reduced}
+use Rattle.numbers.proofs.RefusalsLaws.{pass-parts, pass-check}
 use Rattle.hensel.specs.Factors.{split}
-use Rattle.layout.specs.Layout.{modulus, degree, width, terms, count, end}
 use Rattle.sheet.specs.Sheet.{Given, given_of, given-reach, given-polynomial, Holds}
-use Rattle.open.specs.Open.{choices, find, splits_test, powers_of, is_none, needed, open_verdict, SheetDone, OpenDone, polynomial_checks, list_checks, split_checks}
+use Rattle.open.specs.Open.{choices, find, splits_test, powers_of, is_none, needed, open_verdict, OpenDone, polynomial_checks, list_checks, split_checks}
 use Rattle.layout.proofs.RegionsLaws.{in_rows}
 use Rattle.sheet.specs.internal.Content.{Content, size, sheet_words, built, start, Ready}
 use Rattle.sheet.proofs.ContentLaws.{length-sheet}
-use Rattle.sheet.proofs.SheetsLaws.{Good, words-content, words-sound, end-ext}
+use Rattle.sheet.proofs.SheetsLaws.{Good, words-content, words-end, words-sound}
 use Rattle.sheet.proofs.UniqueLaws.{holds-unique}
-use Rattle.sheet.proofs.HoldsLaws.{holds-ext}
 use Rattle.sheet.proofs.BuildLaws.{solved, solved-good, start-good}
 use Rattle.open.proofs.OpenChecksLaws.{ListPass, list-pass, list-passes, open-rows-split}
 use Rattle.open.proofs.OpenSplitLaws.{split-some, room-pass}
@@ -160,33 +157,35 @@ sheet-exists g h k low high =
           ap (λ m. take m s) e ∙ sym (holds-unique g k (sheet_words c) s holds hs) ∙ ap (λ m. take m (sheet_words c)) (sym (n ∙ e)) ∙ take-length (sheet_words c);
     }
 
-module _ (g : Given) (k : ℕ) (old : List ℕ) where
-  pub sheet-over : (words : List ℕ) → Holds g k words → length words ≡ needed g → needed g ≤ length old → SheetDone g k old (over words old) (needed g)
-  sheet-over words h n fits =
-      let e = needed-is g k words h in
-      let same = length_over words old (omega arith) in
-      let agree : (i : ℕ) → i < end words → word (over words old) i ≡ word words i = λ i l. get_or-append words (drop (length words) old) 0 i (omega arith) in
-      record {
-        same_length = same;
-        holds = holds-ext g k words (over words old) h (omega arith) agree;
-        fills = end-ext words h.sound (over words old) agree ∙ sym e;
-        rest = drop_at words (drop (length words) old) (needed g) n ∙ ap (λ m. drop m old) n;
-      }
-
-  pub sheet-only : (new new' : List ℕ) → SheetDone g k old new (needed g) → SheetDone g k old new' (needed g) → new ≡ new'
-  sheet-only new new' d d' =
-      let same : take (needed g) new ≡ take (needed g) new' = subst (λ n. take n new ≡ take n new') d.fills (holds-unique g k new new' d.holds d'.holds) in
-      sym (take-append-drop (needed g) new) ∙ ap₂ ◌++◌ same (d.rest ∙ sym d'.rest) ∙ take-append-drop (needed g) new'
-
 abbrev pub start_content : Given → Content
 start_content g = built g.p g.D g.N 1 (length g.roots) (word g.lengths) (word g.roots) (powers g) (given-polynomial g) (start g.p (word g.roots) (powers g))
 
 unfoldable pub open_words : Given → List ℕ
 open_words g = sheet_words (start_content g)
 
-pub open_done : (g : Given) (old : List ℕ) → GivenReady g → needed g ≤ length old → OpenDone g old (over (open_words g) old) (needed g)
-unfolding needed open_words
-open_done g old h fits =
-    let n = length-sheet (start_content g) in
-    sheet-over g 1 old (open_words g)
-    (holds-built g 1 _ (open_words g) (start-good g.p g.D g.N (length g.roots) (word g.lengths) (word g.roots) (powers g) (given-polynomial g) h) (omega arith) (λ i l. refl)) n fits
+module _ (g : Given) (old : List ℕ) (h : GivenReady g) (fits : needed g ≤ length old) where
+  pub length-open : length (open_words g) ≡ needed g
+  unfolding needed open_words
+  length-open = length-sheet (start_content g)
+
+  open-agrees : (i : ℕ) → i < needed g → word (over (open_words g) old) i ≡ word (open_words g) i
+  open-agrees i l = get_or-append (open_words g) (drop (length (open_words g)) old) 0 i (omega (arith, length-open))
+
+  pub open_done : OpenDone g old (over (open_words g) old) (needed g)
+  unfolding needed open_words
+  open_done =
+      let n = length-open in
+      let same = length_over (open_words g) old (omega arith) in
+      record {
+        same_length = same;
+        holds = holds-built g 1 _ (over (open_words g) old) (start-good g.p g.D g.N (length g.roots) (word g.lengths) (word g.roots) (powers g) (given-polynomial g) h) (omega arith) open-agrees;
+        fills = words-end (over (open_words g) old) (start_content g) open-agrees;
+        rest = drop_at (open_words g) (drop (length (open_words g)) old) (needed g) n ∙ ap (λ m. drop m old) n;
+      }
+
+  pub open-only : (new : List ℕ) → OpenDone g old new (needed g) → new ≡ over (open_words g) old
+  open-only new d =
+      let d' = open_done in
+      let same : take (needed g) new ≡ take (needed g) (over (open_words g) old)
+      = subst (λ n. take n new ≡ take n (over (open_words g) old)) d.fills (holds-unique g 1 new _ d.holds d'.holds) in
+      sym (take-append-drop (needed g) new) ∙ ap₂ ◌++◌ same (d.rest ∙ sym d'.rest) ∙ take-append-drop (needed g) (over (open_words g) old)

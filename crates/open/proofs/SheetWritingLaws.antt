@@ -209,7 +209,7 @@ module _ (g : Given) (powers old : List ℕ) (T : ℕ) (is : T ≡ needed g) whe
   finished-short a q l =
       let z = answer-refused {v = room_verdict g old} (refusal 10 (needed g)) (needed g) (over (fresh_words g powers) old) old
       (take-check (room_check (length old) (needed g)) [] (lt-ltb (length old) (needed g) (omega arith))) in
-      record { answers = q ∙ ap (refused 10) is ∙ z.0; leaves = z.1 }
+      record { answers = q ∙ ap (refused 10) is ∙ z.answer; leaves = z.words }
 
   pub finished-done : (new : List ℕ) → new ≡ over (fresh_words g powers) old → T ≤ length old → Finished g powers old (accepted T) new
   finished-done new q l =

@@ -10,7 +10,7 @@ use native.Mathlib.Omega.{arith}
 use mathlib.Core.Path.{◌≡◌, refl, sym, ◌∙◌, ap}
 use mathlib.Core.List.{List, ◌++◌, append_assoc, append-nil}
 use lib.ListN.{length, take, drop, length-append, length-drop}
-use lib.Seq.{ext_get_or, get_or-take, take_at, length-take-le}
+use lib.Seq.{get_or-take, take_at, length-take-le}
 use Rattle.algebra.specs.Sums.{sum_to}
 use Rattle.algebra.proofs.SumsLaws.{sum_to-zero, sum_to-suc, sum_to-mono}
 use Rattle.numbers.specs.Words.{word, tabulate, over}

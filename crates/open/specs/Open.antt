@@ -7,9 +7,7 @@
 --   needed g           T
 --   polynomial_checks, list_checks, split_checks, open_checks   the checks: refusals 1 to 6, of which size_checks are 3 to 6; 21, 7 and 8, of which top_checks are 21 and 7; 9 and 10; and all of them
 --   open_verdict g room what they come to
---   SheetDone          the sheet of what is given, with k terms, stands in the first T words; no word past T is changed
---   SheetBy v g k ..   the answer and the words at exit of a call that writes the sheet of g with k terms, where its checks come to v
---   OpenDone           what an accepted call leaves: the sheet of what is given, with one term
+--   OpenDone           what an accepted call leaves: the sheet of what is given, with one term; no word past T is changed
 --   OpenedBy v g ..    the answer and the words at exit of a call that opens the sheet of g, where its checks come to v
 --   Opened             open's answer and the words at exit
 -- Assumes nothing.
@@ -83,23 +81,16 @@ open_checks g room = polynomial_checks g ++ (list_checks g ++ split_checks g roo
 unfoldable pub open_verdict : Given → ℕ → Verdict
 open_verdict g room = judge (open_checks g room)
 
-pub record SheetDone (g : Given) (k : ℕ) (old new : List ℕ) (T : ℕ) : Type 0 where
+pub record OpenDone (g : Given) (old new : List ℕ) (T : ℕ) : Type 0 where
   pub same_length : length new ≡ length old
-  pub holds : Holds g k new
+  pub holds : Holds g 1 new
   pub fills : end new ≡ T
   pub rest : drop T new ≡ drop T old
 
--- under the verdict v: lent `old`, a call that writes the sheet of g with k terms answers `answer` and leaves `new`
-pub record SheetBy (v : Verdict) (g : Given) (k : ℕ) (old : List ℕ) (answer : Outcome ℕ) (new : List ℕ) : Type 0 where
+-- under the verdict v: lent `old`, a call that opens the sheet of g answers `answer` and leaves `new`
+pub record OpenedBy (v : Verdict) (g : Given) (old : List ℕ) (answer : Outcome ℕ) (new : List ℕ) : Type 0 where
   pub answers : answer ≡ outcome_after v (needed g)
-  pub leaves : Leaves v (SheetDone g k old new (needed g)) old new
-
--- a sheet is opened with one term
-abbrev pub OpenDone : (g : Given) (old new : List ℕ) (T : ℕ) → Type 0
-OpenDone g = SheetDone g 1
-
-abbrev pub OpenedBy : (v : Verdict) (g : Given) (old : List ℕ) (answer : Outcome ℕ) (new : List ℕ) → Type 0
-OpenedBy v g = SheetBy v g 1
+  pub leaves : Leaves v (OpenDone g old new (needed g)) old new
 
 abbrev pub Opened : (g : Given) (old : List ℕ) (answer : Outcome ℕ) (new : List ℕ) → Type 0
 Opened g old = OpenedBy (open_verdict g (length old)) g old
