@@ -1,4 +1,5 @@
 -- Demand 3: whole lists of calls, extends and corrections, on what an accepted open wrote.
+--   opened-done     an accepted open left what its conditions say
 --   demand3-kept    every answer is the plain count's; then the first T words are the one sound sheet's, and the others are untouched
 --   holds_agree     sheets agree below X^j exactly where the polynomials that they hold do
 --   demand3-agree   factor lists agree below X^j exactly where the polynomials now held do
@@ -24,9 +25,8 @@ use Rattle.numbers.specs.declared.refusal.Verdict.TheVariants.{Pass, Refuse}
 use Rattle.numbers.proofs.WordsLaws.{lt-or-ge}
 use Rattle.layout.specs.Layout.{modulus, degree, terms, known, end}
 use Rattle.sheet.specs.Sheet.{Sound, Given, Holds}
-use Rattle.open.specs.Open.{needed, open_verdict}
+use Rattle.open.specs.Open.{needed, open_verdict, OpenDone, Opened}
 use Rattle.open.proofs.OpeningLaws.{open-passed}
-use Rattle.open.proofs.OpenDoneLaws.{left-done}
 use Rattle.extend.specs.Extend.{extend_verdict, ExtendDone}
 use Rattle.correct.specs.Correct.{number_check, correct_verdict, CorrectDone, corrected}
 use Rattle.calls.specs.Calls.{Asked, extend, correct, Call, Does, Run, done, call, Count, counting, count_checks, count_value, count_answer, count_next, count_answers, count_end, SameLists, SameGiven, History, worked, held, Kept, Agree, Demand3}
@@ -179,9 +179,14 @@ module _ (T : ℕ) (start : List ℕ) where
       let z = whole r (count_next n c.asked (count_answer T n c)) q.1 in
       (ap₂ (λ (h : Outcome ℕ) (t : List (Outcome ℕ)). h ∷ t) q.0 z.0, z.1)
 
+pub opened-done : (g : Given) (old new : List ℕ) (T : ℕ) → Opened g old (accepted T) new → OpenDone g old new T
+opened-done g old new T x =
+    let (e, t) = accepted-pass (open_verdict g (length old)) (needed g) T x.answers in
+    subst (OpenDone g old new) (sym t) (subst (λ v. Leaves v (OpenDone g old new (needed g)) old new) e x.leaves)
+
 between : (x : History) → (x.answers ≡ count_answers x.T (counting x.given) x.calls) × Between x.T x.start (count_end x.T (counting x.given) x.calls) x.last
 between x =
-    let d = left-done _ x.given 1 x.before x.start x.T x.opened in
+    let d = opened-done x.given x.before x.start x.T x.opened in
     let (e, _) = accepted-pass (open_verdict x.given (length x.before)) (needed x.given) x.T x.opened.answers in
     whole x.T x.start x.run (counting x.given)
     (record { holds = d.holds; rows = (open-passed x.given (length x.before) e).list.rows.polynomial.long; fills = d.fills; same_length = refl; rest = λ i l. refl })
@@ -254,7 +259,7 @@ calls_same x y es eg ew =
     let kx = demand3-kept x in
     let ky = demand3-kept y in
     let eT : x.T ≡ y.T
-    = sym (left-done _ x.given 1 x.before x.start x.T x.opened).fills ∙ ap end es ∙ (left-done _ y.given 1 y.before y.start y.T y.opened).fills in
+    = sym (opened-done x.given x.before x.start x.T x.opened).fills ∙ ap end es ∙ (opened-done y.given y.before y.start y.T y.opened).fills in
     let h : Holds (held x) (worked x) y.last = subst (λ g. Holds g (worked x) y.last) (sym eg) (subst (λ k. Holds (held y) k y.last) (sym ew) ky.holds) in
     let d : drop x.T x.last ≡ drop x.T y.last
     = kx.rest ∙ ap₂ (λ n s. drop n s) eT es ∙ sym ky.rest ∙ ap (λ n. drop n y.last) (sym eT) in

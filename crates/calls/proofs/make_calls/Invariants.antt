@@ -1,0 +1,18 @@
+-- `calls::make_calls` meets its contract. The loop's invariant: the calls before i are made.
+-- Assumes nothing.
+use mathlib.Core.Path.{sym}
+use Prim.Native.Nat.{◌*◌, ◌≤◌, ◌-◌}
+use native.Mathlib.Omega.{arith}
+use lib.ListN.{length}
+use lib.Seq.{length-take-le}
+use Rattle.calls.specs.Replay.{call_count, call_at}
+use Rattle.calls.specs.internal.Making.{CallsMade}
+use Rattle.calls.proofs.ReplayLaws.{made_none, made_more, made_all}
+use borrow.Author.Rules.{rules}
+use Rattle.calls.proofs.make_calls.Given as goal
+
+abbrev pub invariant-loop-i : goal.invariant-loop-i
+invariant-loop-i l = (l.i ≤ call_count l.calls) × CallsMade l.i l.calls l.initial.sheet l.sheet l.initial.answers l.answers
+
+abbrev pub decreases-loop-i : goal.decreases-loop-i
+decreases-loop-i l = call_count l.calls - l.i
