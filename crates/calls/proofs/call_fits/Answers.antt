@@ -4,7 +4,6 @@ use mathlib.Core.Path.{sym}
 use Prim.Native.Nat.{◌*◌}
 use native.Mathlib.Omega.{arith}
 use Rattle.calls.proofs.ReplayLaws.{lends-beyond, fits-correct, kind-other, fourth-not, by-fifth}
-use borrow.Author.Rules.{rules}
 use Rattle.calls.proofs.call_fits.Goals as goal
 
 pub overflow_cast-calls : goal.overflow_cast-calls

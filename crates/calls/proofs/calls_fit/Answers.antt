@@ -2,13 +2,10 @@
 -- Assumes nothing.
 use mathlib.Core.Path.{◌≡◌, sym, ◌∙◌}
 use mathlib.Core.Bool.{true}
-use Prim.Native.Nat.{ℕ, ◌≤◌, ◌<◌, ◌-◌}
 use native.Mathlib.Omega.{arith}
 use borrow.Author.Count.{below_more}
-use borrow.Author.Tests.{not-true, not-false}
 use Rattle.numbers.proofs.TestsLaws.{at-all_to, all_to-false}
-use Rattle.calls.specs.Replay.{call_count, call_fits}
-use borrow.Author.Rules.{rules}
+use Rattle.calls.specs.Replay.{call_fits}
 use Rattle.calls.proofs.calls_fit.Goals as goal
 
 pub loop-i-init : goal.loop-i-init

@@ -1,14 +1,9 @@
 -- `calls::calls_fit` meets its contract. The loop's invariant: the calls before i fit.
 -- Assumes nothing.
-use mathlib.Core.Path.{◌≡◌, sym, ◌∙◌}
+use mathlib.Core.Path.{◌≡◌}
 use mathlib.Core.Bool.{true}
 use Prim.Native.Nat.{ℕ, ◌≤◌, ◌<◌, ◌-◌}
-use native.Mathlib.Omega.{arith}
-use borrow.Author.Count.{below_more}
-use borrow.Author.Tests.{not-true, not-false}
-use Rattle.numbers.proofs.TestsLaws.{at-all_to, all_to-false}
 use Rattle.calls.specs.Replay.{call_count, call_fits}
-use borrow.Author.Rules.{rules}
 use Rattle.calls.proofs.calls_fit.Given as goal
 
 abbrev pub invariant-loop-i : goal.invariant-loop-i

@@ -4,13 +4,11 @@ use mathlib.Core.Path.{◌≡◌, sym, ap, ◌∙◌}
 use mathlib.Core.Bool.{true}
 use Prim.Native.Nat.{ℕ}
 use native.Mathlib.Omega.{arith}
-use borrow.Author.Tests.{not-true, not-false}
 use Rattle.numbers.specs.Words.{all_to}
 use Rattle.numbers.specs.Refusals.{refusal}
 use Rattle.numbers.specs.declared.refusal.Verdict.TheVariants.{Refuse}
 use Rattle.calls.specs.Replay.{call_count, call_fits}
 use Rattle.calls.proofs.ReplayLaws.{calls-broken, calls-unfit, calls-short, calls-pass}
-use borrow.Author.Rules.{rules}
 use Rattle.calls.proofs.check_calls.Goals as goal
 use Rattle.calls.proofs.check_calls.Lts as step
 use Rattle.calls.proofs.check_calls.Reads as reads

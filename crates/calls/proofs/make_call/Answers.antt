@@ -1,7 +1,6 @@
 -- `calls::make_call` meets its contract: the kind says which call it is.
 -- Assumes nothing.
 use Rattle.calls.proofs.ReplayLaws.{does-extend, does-correct}
-use borrow.Author.Rules.{rules}
 use Rattle.calls.proofs.make_call.Goals as goal
 
 pub returns-then-calls-from-eq-EXTEND : goal.returns-then-calls-from-eq-EXTEND

@@ -1,14 +1,12 @@
 -- `calls::make_calls` meets its contract. The loop's invariant: the calls before i are made.
 -- Assumes nothing.
 use mathlib.Core.Path.{sym}
-use Prim.Native.Nat.{◌*◌, ◌≤◌, ◌-◌}
+use Prim.Native.Nat.{◌*◌, ◌≤◌}
 use native.Mathlib.Omega.{arith}
 use lib.ListN.{length}
 use lib.Seq.{length-take-le}
 use Rattle.calls.specs.Replay.{call_count, call_at}
-use Rattle.calls.specs.internal.Making.{CallsMade}
 use Rattle.calls.proofs.ReplayLaws.{made_none, made_more, made_all}
-use borrow.Author.Rules.{rules}
 use Rattle.calls.proofs.make_calls.Goals as goal
 use Rattle.calls.proofs.make_calls.Lts as step
 use Rattle.calls.proofs.make_calls.Reads as reads

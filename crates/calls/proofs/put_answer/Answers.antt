@@ -1,9 +1,8 @@
 -- `calls::put_answer` meets its contract.
 -- Assumes nothing.
-use mathlib.Core.Path.{◌≡◌, sym, ap, ◌∙◌}
+use mathlib.Core.Path.{sym, ap, ◌∙◌}
 use Rattle.numbers.specs.Refusals.{outcome}
 use Rattle.calls.specs.internal.Making.{put_answer}
-use borrow.Author.Rules.{rules}
 use Rattle.calls.proofs.put_answer.Goals as goal
 
 pub returns-in-Done : goal.returns-in-Done

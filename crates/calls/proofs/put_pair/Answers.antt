@@ -3,7 +3,6 @@
 use Prim.Native.Nat.{◌*◌}
 use native.Mathlib.Omega.{arith}
 use lib.ListN.{length-set}
-use borrow.Author.Rules.{rules}
 use Rattle.calls.proofs.put_pair.Goals as goal
 
 pub bounds-answers-i-2 : goal.bounds-answers-i-2

@@ -5,7 +5,6 @@ use lib.ListN.{length}
 use Rattle.numbers.specs.declared.refusal.Verdict.TheVariants.{Pass}
 use Rattle.calls.specs.Replay.{replay_verdict}
 use Rattle.calls.proofs.ReplayLaws.{calls-lent, replay-refused, replay-done}
-use borrow.Author.Rules.{rules}
 use Rattle.calls.proofs.replay.Goals as goal
 use Rattle.calls.proofs.replay.Lts as step
 use Rattle.calls.proofs.replay.Reads as reads

@@ -10,7 +10,6 @@ use Rattle.numbers.specs.Limits.{largest_degree}
 use Rattle.numbers.specs.declared.refusal.Verdict.TheVariants.{Pass}
 use Rattle.numbers.proofs.RefusalsLaws.{after-pass, after-told, take-check, skip-check, none-judged, inside, modulus-pass}
 use Rattle.counts.specs.Counts.{many_check, counts_checks, most_polynomials}
-use borrow.Author.Rules.{rules}
 use Rattle.counts.proofs.check_counts.Goals as goal
 use Rattle.counts.proofs.check_counts.Lts as step
 use Rattle.counts.proofs.check_counts.Reads as reads

@@ -8,7 +8,6 @@ use Rattle.numbers.specs.declared.refusal.Verdict.TheVariants.{Pass}
 use Rattle.numbers.proofs.RefusalsLaws.{answer-refused, answer-done}
 use Rattle.counts.specs.Counts.{count_words, counts_checks}
 use Rattle.counts.proofs.CheckLaws.{counts-pass}
-use borrow.Author.Rules.{rules}
 use Rattle.counts.proofs.counts.Goals as goal
 use Rattle.counts.proofs.counts.Lts as step
 use Rattle.counts.proofs.counts.Reads as reads

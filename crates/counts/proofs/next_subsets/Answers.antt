@@ -7,7 +7,6 @@ use mathlib.Core.Path.{sym, ◌∙◌, ap}
 use Rattle.numbers.specs.internal.Limits.{modulus_bound}
 use Rattle.counts.specs.Counts.{most_polynomials}
 use Rattle.counts.proofs.SubsetsLaws.{subsets-past, subsets-next}
-use borrow.Author.Rules.{rules}
 use Rattle.counts.proofs.next_subsets.Goals as goal
 
 pub returns-then-n-i : goal.returns-then-n-i

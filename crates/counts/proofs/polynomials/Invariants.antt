@@ -1,12 +1,8 @@
 -- `counts::polynomials` meets its contract. The loop's invariant: n is p^i, and not too many.
 -- Assumes nothing.
-use Prim.Native.Nat.{◌≤◌, ◌+◌, ◌*◌, ◌^◌, ◌-◌}
-use native.Mathlib.Nat.{pow-zero, mul-le-mul}
-use native.Mathlib.Omega.{arith}
-use mathlib.Core.Path.{◌≡◌, refl, sym, ◌∙◌, ap}
-use Rattle.numbers.specs.internal.Limits.{modulus_bound}
+use Prim.Native.Nat.{◌≤◌, ◌^◌, ◌-◌}
+use mathlib.Core.Path.{◌≡◌}
 use Rattle.counts.specs.Counts.{most_polynomials}
-use Rattle.counts.proofs.CountingLaws.{power-next, power-early, power-done}
 use Rattle.counts.proofs.polynomials.Given as goal
 
 abbrev pub invariant-loop-i : goal.invariant-loop-i

@@ -1,16 +1,13 @@
 -- `counts::write_counts` meets its contract. The loop's invariant: words 1 to r are written, and what is unsplit and they make p^d.
 -- Assumes nothing.
-use Prim.Native.Nat.{suc, ◌+◌, ◌-◌, ◌*◌, ◌^◌, ◌≤◌}
+use Prim.Native.Nat.{suc, ◌+◌, ◌-◌, ◌*◌, ◌≤◌}
 use native.Mathlib.Omega.{arith}
 use mathlib.Core.Path.{◌≡◌, sym, ◌∙◌, ap}
-use Rattle.counts.specs.Counts.{subsets, counted, most_polynomials}
+use Rattle.counts.specs.Counts.{counted, most_polynomials}
 use Rattle.counts.proofs.SubsetsLaws.{subsets-none}
-use Rattle.counts.proofs.CountingLaws.{sets-bound, powers-bound, split-made, taken, total_first, taken-enough, taken_next, taken-all, Writes, writes-none, writes-next, writes-all}
-use borrow.Author.Rules.{rules}
+use Rattle.counts.proofs.CountingLaws.{sets-bound, powers-bound, split-made, taken, total_first, taken-enough, taken_next, taken-all, writes-none, writes-next, writes-all}
 use Rattle.counts.proofs.write_counts.Reads as reads
 use Rattle.counts.proofs.write_counts.Lts as lts
-use Rattle.counts.proofs.next_subsets.Reads as next-subsets-reads
-use Rattle.counts.proofs.polynomials.Reads as polynomials-reads
 use Rattle.counts.proofs.write_counts.Goals as goal
 use Rattle.counts.proofs.write_counts.Reads as reads
 use Rattle.counts.proofs.write_counts.Tie as tie
