@@ -122,7 +122,7 @@ module _ (p N : ℕ) (s : List ℕ) where
     read-refused r e =
         let v : judge (read_checks p N (length s) (found s) (length old)) ≡ Refuse r = after-refuse (text_checks p N (length s) (found s)) _ r e in
         let a = answer-refused r (read_degree p N (found s)) (over (read_words p N (found s)) old) old v in
-        record { reading = found s; derived = scan-derives s; answers = a.0; leaves = a.1 }
+        record { reading = found s; derived = scan-derives s; answers = a.answer; leaves = a.words }
 
     module _ (pass : judge (text_checks p N (length s) (found s)) ≡ Pass) (f : Sum) (e : found s ≡ reads f) where
       nineteen : Check
@@ -136,7 +136,7 @@ module _ (p N : ℕ) (s : List ℕ) where
       unfolding nineteen
       high_read h =
           let a = answer-refused (refusal 19 0) (read_degree p N (reads f)) (over (read_words p N (reads f)) old) old (goes_on ∙ take-check nineteen _ h) in
-          record { reading = reads f; derived = scan-sound f s e; answers = a.0; leaves = a.1 }
+          record { reading = reads f; derived = scan-sound f s e; answers = a.answer; leaves = a.words }
 
       low-judged : sum_high p N f ≡ false → judge (read_checks p N (length s) (reads f) (length old)) ≡ judge (room_check (length old) ((degree N (sum_value p f) + 1) * N) ∷ [])
       unfolding nineteen
@@ -155,13 +155,17 @@ stored-table p n f w rows k =
 
 -- 10, or the words
 module _ (words answer : ℕ) (w old : List ℕ) where
-  pub handed-none : length old < words → (◌≡◌ {A = Outcome ℕ} (refused 10 words) (outcome_after (judge (room_check (length old) words ∷ [])) answer))
-      × (old ≡ written (judge (room_check (length old) words ∷ [])) (over (tabulate words (word w)) old) old)
+  pub handed-none : length old < words → record {
+    answer : ◌≡◌ {A = Outcome ℕ} (refused 10 words) (outcome_after (judge (room_check (length old) words ∷ [])) answer);
+    words : old ≡ written (judge (room_check (length old) words ∷ [])) (over (tabulate words (word w)) old) old;
+  }
   handed-none l = answer-refused (refusal 10 words) answer (over (tabulate words (word w)) old) old (take-check (room_check (length old) words) [] (lt-ltb (length old) words l))
 
   pub handed-all : words ≤ length old → (new : List ℕ) → new ≡ over (tabulate words (word w)) old
-      → (◌≡◌ {A = Outcome ℕ} (accepted answer) (outcome_after (judge (room_check (length old) words ∷ [])) answer))
-      × (new ≡ written (judge (room_check (length old) words ∷ [])) (over (tabulate words (word w)) old) old)
+      → record {
+        answer : ◌≡◌ {A = Outcome ℕ} (accepted answer) (outcome_after (judge (room_check (length old) words ∷ [])) answer);
+        words : new ≡ written (judge (room_check (length old) words ∷ [])) (over (tabulate words (word w)) old) old;
+      }
   handed-all l new e =
       answer-done (λ m. tabulate m (word w)) words words answer old new (skip-check (room_check (length old) words) [] (le-ltb (length old) words l) ∙ none-judged) e refl
 

@@ -128,7 +128,7 @@ pub joined : (m k : ℕ) (P A e x y : List ℕ) → length P ≡ m + 1 → lengt
     → record {
       long : length (put_from m (x ++ drop m e) y) ≡ m + k;
       low : (i : ℕ) → i < m → word (put_from m (x ++ drop m e) y) i ≡ word P i;
-      high : (i : ℕ) → i < k → word (put_from m (x ++ drop m e) y) (m + i) ≡ word A i
+      high : (i : ℕ) → i < k → word (put_from m (x ++ drop m e) y) (m + i) ≡ word A i;
     }
 joined m k P A e x y nP nA ne ex ey =
     let nt : length (take m e) ≡ m = length-take-le m e (omega arith) in
