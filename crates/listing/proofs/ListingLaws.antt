@@ -355,12 +355,20 @@ pub put-over : {n a : ℕ} {text old new : List ℕ} → Puts n text 0 old a new
 put-over {n} {a} {text} {old} {new} f = f.leaves ∙ ap (λ (k : ℕ). text ++ drop k old) (let z : 0 + length text ≡ length text = omega arith in z)
 
 pub handed-none : (text old : List ℕ) → length old < length text
-    → (◌≡◌ {A = Outcome ℕ} (refused 10 (length text)) (outcome_after (room_verdict text old) (length text))) × (old ≡ written (room_verdict text old) (over text old) old)
-handed-none text old h = answer-refused {v = room_verdict text old} (refusal 10 (length text)) (length text) (over text old) old (no_room text old h)
+    → record {
+      answer : ◌≡◌ {A = Outcome ℕ} (refused 10 (length text)) (outcome_after (room_verdict text old) (length text));
+      bytes : old ≡ written (room_verdict text old) (over text old) old;
+    }
+handed-none text old h =
+    let r = answer-refused {v = room_verdict text old} (refusal 10 (length text)) (length text) (over text old) old (no_room text old h) in
+    record { answer = r.answer; bytes = r.words }
 
 pub handed-all : (text old : List ℕ) {n a : ℕ} {new : List ℕ} → length text ≤ length old → Puts n text 0 old a new
-    → (◌≡◌ {A = Outcome ℕ} (accepted (length text)) (outcome_after (room_verdict text old) (length text))) × (new ≡ written (room_verdict text old) (over text old) old)
-handed-all text old h f = rw (has_room text old h) (refl, put-over f)
+    → record {
+      answer : ◌≡◌ {A = Outcome ℕ} (accepted (length text)) (outcome_after (room_verdict text old) (length text));
+      bytes : new ≡ written (room_verdict text old) (over text old) old;
+    }
+handed-all text old h f = rw (has_room text old h) (record { answer = refl; bytes = put-over f })
 
 -- the verdict on a job's words, in a sheet with room for every job, is the job's
 pub list-verdict : (b : List ℕ) (room : ℕ) → judge (job_checks b) ≡ Pass → room ≡ sheet_room → list_verdict b ≡ rooted_verdict (job_given b) room
