@@ -6,9 +6,11 @@ ghost use Rattle.numbers.specs.Refusals.{accepted};
 ghost use Rattle.text.specs.Limits.{text_room};
 ghost use Rattle.typed.specs.Key.{Keyed};
 
-use libc::{STDIN_FILENO, STDOUT_FILENO};
+use input::read_full;
 use listing::limits::TEXT_ROOM;
 use numbers::refusal::Answer;
+use std::io;
+use std::io::Print;
 use typed::limits::INPUT_ROOM;
 
 // The text of an input, and its length: 9,216 bytes are always room enough.
@@ -23,10 +25,10 @@ fn reply(input: &[u8], text: &mut [u8]) -> usize
 }
 
 // An input that goes on after what is read here comes to the same text (`key-cut`): it is too long.
-fn main() {
+fn main(rt: HostRuntime) -> io::Result<()> {
     let mut input = [0u8; INPUT_ROOM];
-    let got = io::read_full(STDIN_FILENO, &mut input);
+    let got = read_full(&mut rt.reader(), &mut input)?;
     let mut text = [0u8; TEXT_ROOM];
     let long = reply(&input[..got], &mut text);
-    io::write_all(STDOUT_FILENO, &text[..long]);
+    rt.write_all(&text[..long])
 }
