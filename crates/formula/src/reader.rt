@@ -4,7 +4,7 @@ ghost use Rattle.formula.specs.internal.Survey.{survey_at};
 
 use crate::{Surveyed, survey_at};
 
-#[derive(Drop)]
+#[derive(Clone, Copy)]
 pub struct Reader<'a> {
     pub text: &'a [u8],
     pub at: usize,

@@ -9,13 +9,13 @@ use numbers::judge::{check_modulus, first_large};
 use numbers::kernel::inverse_of;
 use numbers::refusal::{Refusal, Verdict, refuse};
 
-#[derive(Drop)]
+#[derive(Clone, Copy)]
 pub struct Number {
     pub p: u32,
     pub value: u32,
 }
 
-#[derive(Drop)]
+#[derive(Clone, Copy)]
 pub enum NumberAnswer {
     Is(Number),
     Refused(Refusal),

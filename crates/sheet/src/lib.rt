@@ -23,7 +23,7 @@ pub struct Factor {
     pub power: u32,
 }
 
-#[derive(Drop)]
+#[derive(Clone, Copy)]
 pub enum FactorAnswer {
     Is(Factor),
     Refused(Refusal),

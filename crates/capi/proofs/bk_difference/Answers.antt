@@ -1,0 +1,9 @@
+-- `capi::bk_difference` meets its contract.
+-- Assumes nothing.
+use Rattle.capi.specs.Packed.{packed_number}
+use mathlib.Core.Path.{ap, ◌∙◌}
+use borrow.Author.Rules.{rules}
+use Rattle.capi.proofs.bk_difference.Goals as goal
+
+pub returns : goal.returns
+returns c = c.pack_number.ensures ∙ ap packed_number c.difference.ensures

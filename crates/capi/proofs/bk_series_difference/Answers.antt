@@ -1,0 +1,9 @@
+-- `capi::bk_series_difference` meets its contract.
+-- Assumes nothing.
+use Rattle.capi.specs.Packed.{packed}
+use mathlib.Core.Path.{ap, ◌∙◌}
+use borrow.Author.Rules.{rules}
+use Rattle.capi.proofs.bk_series_difference.Goals as goal
+
+pub returns : goal.returns
+returns c = record { answer = c.pack.ensures ∙ ap packed c.difference.ensures.answer; words = c.difference.ensures.words }
