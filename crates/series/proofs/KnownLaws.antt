@@ -67,7 +67,7 @@ module _ (p N : ℕ) (g g'' : List ℕ) (a : ℕ) (h h' : List ℕ) (b : ℕ) (s
   unfolding product
   product-known = tabulate-ext N _ _ (λ t _. up-ext (min a b) _ _ (λ i l. product-ext p g g'' h h' i (λ j u. same-g j (omega arith)) (λ j u. same-h j (omega arith))) t)
 
--- the first k words of g and h, k the lesser of two counts, give the first k words of the outcome_after; then zeros are put after them
+-- the first k words of g and h, k the lesser of two counts, give the first k words of the result; then zeros are put after them
 module _ (p : ℕ) (g : List ℕ) (a : ℕ) (h : List ℕ) (b k : ℕ) (lesser : k ≡ min a b) (within : k ≤ length g) (old out ys : List ℕ) (room : length g ≤ length old)
     (zeros : ys ≡ tabulate (length (part out k (length g - k))) (λ _. 0)) where
   first-words : (s : List ℕ) (t : ℕ) → t < k → word (take k s) t ≡ word s t
