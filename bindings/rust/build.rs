@@ -6,12 +6,17 @@ use std::process::Command;
 use std::{env, fs};
 
 fn prove_archive(root: &Path) -> PathBuf {
-    println!("cargo:rerun-if-changed={}", root.join("crates").display());
+    for entry in fs::read_dir(root.join("crates")).expect("the repository has crates/") {
+        let folder = entry.expect("crates/ can be read").path();
+        for part in ["src", "specs", "proofs"] {
+            println!("cargo:rerun-if-changed={}", folder.join(part).display());
+        }
+    }
     println!("cargo:rerun-if-changed={}", root.join("crates.txt").display());
-    let status = Command::new("rt").args(["staticlib", "capi"]).current_dir(root).status();
+    let status = Command::new("rt").arg("lib").current_dir(root.join("crates/capi")).status();
     match status {
-        Ok(status) if status.success() => root.join("target/staticlib"),
-        Ok(status) => panic!("`rt staticlib capi` in {} ended with {status}", root.display()),
+        Ok(status) if status.success() => root.join("crates/capi/out"),
+        Ok(status) => panic!("`rt lib` in {}/crates/capi ended with {status}", root.display()),
         Err(error) => {
             panic!("`rt` (the Rattle toolchain) could not be run: {error}. Put it on the PATH, or let BOPKHEUL_LIB_DIR name a folder with libcapi.a")
         }

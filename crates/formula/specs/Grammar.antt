@@ -2,7 +2,7 @@
 --   Blanks s          s is blanks alone, byte 32
 --   Digits s          s is decimal digits alone
 --   decimal_from v s   the number that the digits of s stand for after those of v
---   Joined, _⨾_       P ⨾ Q: a text of P with a text of Q after it
+--   Joined, ◌⨾◌       P ⨾ Q: a text of P with a text of Q after it
 --   Padded P          a text of P with blanks before and after it
 --   Only text         this text
 --   Symbol c          the byte c, with blanks before and after it

@@ -37,7 +37,8 @@ use Rattle.rows.proofs.RowsLaws.{line-lt}
 use Rattle.rows.proofs.MonicLaws.{monic-low, monic-top, monic-above, monic-ext, by_place}
 use Rattle.rows.proofs.MulLaws.{mul-lt, mul-ext, mul-rem}
 use Rattle.rows.proofs.ShiftLaws.{root-power}
-use Rattle.hensel.specs.Factors.{root_power, flat, product, IsFactors, place_of, is_listed, power_at, factor_at}
+use Rattle.hensel.specs.Factors.{root_power, flat, product, IsFactors}
+use Rattle.hensel.specs.internal.Joined.{place_of, is_listed, power_at, factor_at}
 use Rattle.hensel.proofs.FactorsLaws.{product-rem, product_lt, product-ext, monic-rem, columns_of, roots_of, first-column, factors-chain}
 
 module _ (r : ℕ) (root : ℕ → ℕ) where

@@ -6,15 +6,10 @@
 --   IsFactors ..            the conditions: a i are the rows of factor i below its degree, power i
 --   SameFactors ..          two factor lists agree below X^j
 --   SamePolynomial ..       two polynomials agree below X^j
---   place_of r root c        the place of c among r roots, or r
---   is_listed r root c       c is one of them
---   power_at .. c            the power of the root c, or 0
---   factor_at .. c           its factor with its leading 1, or 1
 -- Roots, powers and factors are counted from 0 here.
 -- Assumes nothing.
-use Rattle.std.specs.Prelude.{ℕ, zero, suc, ◌-◌, ◌≤◌, ◌<◌, ◌≡◌, Bool, ltb, eqb}
+use Rattle.std.specs.Prelude.{ℕ, zero, suc, ◌-◌, ◌≤◌, ◌<◌, ◌≡◌}
 use Rattle.algebra.specs.Sums.{sum_to}
-use Rattle.numbers.specs.Words.{choose, first_where}
 use Rattle.rows.specs.Rows.{mul, line_power, unit, monic}
 
 abbrev pub root_power : ℕ → ℕ → ℕ → ℕ → ℕ
@@ -54,17 +49,3 @@ pub record SameFactors (j r r' : ℕ) (root root' power power' : ℕ → ℕ) (a
 pub record SamePolynomial (j D D' : ℕ) (f f' : ℕ → ℕ → ℕ) : Type 0 where
   pub degrees : D ≡ D'
   pub columns : (q : ℕ) → q ≤ D → (t : ℕ) → t < j → f q t ≡ f' q t
-
--- the place of c among r roots, and r where it is none of them
-unfoldable pub place_of : (r : ℕ) (root : ℕ → ℕ) (c : ℕ) → ℕ
-place_of r root c = first_where (λ i. eqb (root i) c) 0 r
-
-abbrev pub is_listed : (r : ℕ) (root : ℕ → ℕ) (c : ℕ) → Bool
-is_listed r root c = ltb (place_of r root c) r
-
--- its power, 0 where it is no root; its factor is 1 then
-abbrev pub power_at : (r : ℕ) (root power : ℕ → ℕ) (c : ℕ) → ℕ
-power_at r root power c = choose (is_listed r root c) (power (place_of r root c)) 0
-
-abbrev pub factor_at : (r : ℕ) (root power : ℕ → ℕ) (a : ℕ → ℕ → ℕ → ℕ) (c : ℕ) → ℕ → ℕ → ℕ
-factor_at r root power a c = monic (power_at r root power c) (a (place_of r root c))

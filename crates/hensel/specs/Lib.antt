@@ -1,1 +1,2 @@
 pub mod Factors
+pub mod internal

@@ -1,0 +1,2 @@
+-- Definitions that no contract cites.
+pub mod Joined
