@@ -34,7 +34,8 @@ fn call_fits(size: usize, calls: &[u32], i: usize) -> bool
     if size < calls[from] as usize {
         return false;
     }
-    if calls[from + 1] == CORRECT {
+    let corrects = calls[from + 1] == CORRECT;
+    if corrects {
         return true;
     }
     if calls[from + 1] != EXTEND {

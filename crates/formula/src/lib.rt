@@ -73,11 +73,13 @@ pub fn survey_at(text: &[u8], at: usize) -> Surveyed
         return Surveyed::Unreadable;
     }
     let rest = &text[at..];
-    if LONGEST_TEXT < rest.len() {
+    let too_long = LONGEST_TEXT < rest.len();
+    if too_long {
         return Surveyed::Unreadable;
     }
     if survey::readable(rest) {
-        if DEEPEST_BRACKETS < survey::brackets(rest) {
+        let too_deep = DEEPEST_BRACKETS < survey::brackets(rest);
+        if too_deep {
             return Surveyed::Deep;
         }
         return Surveyed::Fine;

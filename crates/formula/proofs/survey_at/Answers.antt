@@ -10,28 +10,28 @@ use Rattle.formula.proofs.survey_at.Goals as goal
 pub returns-then-text-at : goal.returns-then-text-at
 returns-then-text-at c = survey-past _ _ c.if-text-at.true
 
-pub returns-then-rest-gt-LONGEST_TEXT : goal.returns-then-rest-gt-LONGEST_TEXT
-returns-then-rest-gt-LONGEST_TEXT c =
+pub returns-then-too_long : goal.returns-then-too_long
+returns-then-too_long c =
     let the-args = c.args in
-    survey-long the-args.text.now the-args.at (take (length the-args.text.now - the-args.at) (drop the-args.at the-args.text.now)) (from_is the-args.text.now the-args.at) c.if-text-at.false c.if-rest-gt-LONGEST_TEXT.true
+    survey-long the-args.text.now the-args.at (take (length the-args.text.now - the-args.at) (drop the-args.at the-args.text.now)) (from_is the-args.text.now the-args.at) c.if-text-at.false c.if-too_long.true
 
 pub readable-requires : goal.readable-requires
-readable-requires c = c.if-rest-gt-LONGEST_TEXT.false
+readable-requires c = c.if-too_long.false
 
-pub brackets-requires : goal.brackets-requires
-brackets-requires c = c.if-rest-gt-LONGEST_TEXT.false
+pub brackets-too_deep-requires : goal.brackets-too_deep-requires
+brackets-too_deep-requires c = c.if-too_long.false
 
-pub returns-then-brackets-gt-DEEPEST_BRACKETS : goal.returns-then-brackets-gt-DEEPEST_BRACKETS
-returns-then-brackets-gt-DEEPEST_BRACKETS c =
+pub returns-then-too_deep : goal.returns-then-too_deep
+returns-then-too_deep c =
     let the-args = c.args in
-    survey-deep the-args.text.now the-args.at (take (length the-args.text.now - the-args.at) (drop the-args.at the-args.text.now)) (from_is the-args.text.now the-args.at) c.if-text-at.false c.if-rest-gt-LONGEST_TEXT.false (sym c.readable.ensures ∙ c.if-readable.true) _ c.brackets.ensures c.if-brackets-gt-DEEPEST_BRACKETS.true
+    survey-deep the-args.text.now the-args.at (take (length the-args.text.now - the-args.at) (drop the-args.at the-args.text.now)) (from_is the-args.text.now the-args.at) c.if-text-at.false c.if-too_long.false (sym c.readable.ensures ∙ c.if-readable.true) _ c.brackets-too_deep.ensures c.if-too_deep.true
 
 pub returns-then-readable : goal.returns-then-readable
 returns-then-readable c =
     let the-args = c.args in
-    survey-fine the-args.text.now the-args.at (take (length the-args.text.now - the-args.at) (drop the-args.at the-args.text.now)) (from_is the-args.text.now the-args.at) c.if-text-at.false c.if-rest-gt-LONGEST_TEXT.false (sym c.readable.ensures ∙ c.if-readable.true) _ c.brackets.ensures c.if-brackets-gt-DEEPEST_BRACKETS.false
+    survey-fine the-args.text.now the-args.at (take (length the-args.text.now - the-args.at) (drop the-args.at the-args.text.now)) (from_is the-args.text.now the-args.at) c.if-text-at.false c.if-too_long.false (sym c.readable.ensures ∙ c.if-readable.true) _ c.brackets-too_deep.ensures c.if-too_deep.false
 
 pub returns : goal.returns
 returns c =
     let the-args = c.args in
-    survey-unread the-args.text.now the-args.at (take (length the-args.text.now - the-args.at) (drop the-args.at the-args.text.now)) (from_is the-args.text.now the-args.at) c.if-text-at.false c.if-rest-gt-LONGEST_TEXT.false (sym c.readable.ensures ∙ c.if-readable.false)
+    survey-unread the-args.text.now the-args.at (take (length the-args.text.now - the-args.at) (drop the-args.at the-args.text.now)) (from_is the-args.text.now the-args.at) c.if-text-at.false c.if-too_long.false (sym c.readable.ensures ∙ c.if-readable.false)
