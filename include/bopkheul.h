@@ -9,7 +9,7 @@
  *   refused    high half the refusal's number (enum bk_refusal), low half its detail. Then no word was written.
  * Words past those that an accepted call writes are untouched.
  *
- * Link with the archive that `rt lib capi` writes (x86-64 Linux); the README says how.
+ * Link with the archive that `rt lib` writes in crates/capi (x86-64 Linux); the README says how.
  */
 #ifndef BOPKHEUL_H
 #define BOPKHEUL_H
