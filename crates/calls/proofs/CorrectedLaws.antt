@@ -9,8 +9,7 @@ use mathlib.Core.Path.{◌≡◌, sym, ◌∙◌, ap, subst}
 use mathlib.Core.List.{List}
 use lib.ListN.{length, set, length-set}
 use Rattle.numbers.specs.Words.{word}
-use Rattle.numbers.specs.Refusals.{accepted, Leaves}
-use Rattle.numbers.specs.declared.refusal.Verdict.TheVariants.{Pass}
+use Rattle.numbers.specs.Refusals.{accepted, Leaves, Pass}
 use Rattle.numbers.proofs.RefusalsLaws.{accepted-pass}
 use Rattle.tiles.proofs.TileLaws.{set_below}
 use Rattle.layout.specs.Layout.{rows_at, terms}

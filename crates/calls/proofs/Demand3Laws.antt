@@ -18,10 +18,7 @@ use lib.ListN.{length, take, drop, length-append, length-drop, length-set, take-
 use lib.Seq.{ext_get_or, get_or-take, get_or-drop, length-take-le, get_or-append-add}
 use Rattle.numbers.proofs.RefusalsLaws.{accepted-pass}
 use Rattle.numbers.specs.Words.{word}
-use Rattle.numbers.specs.Refusals.{judge, beyond_check, behind_check, check, refusal, Outcome, accepted, refused, outcome_after, Leaves}
-use Rattle.numbers.specs.declared.refusal.Refusal.{Refusal}
-use Rattle.numbers.specs.declared.refusal.Verdict.{Verdict}
-use Rattle.numbers.specs.declared.refusal.Verdict.TheVariants.{Pass, Refuse}
+use Rattle.numbers.specs.Refusals.{judge, beyond_check, behind_check, check, refusal, Outcome, accepted, refused, outcome_after, Leaves, Row, Verdict, Pass, Refuse}
 use Rattle.numbers.proofs.WordsLaws.{lt-or-ge}
 use Rattle.layout.specs.Layout.{modulus, degree, terms, known, end}
 use Rattle.sheet.specs.Sheet.{Sound, Given, Holds}
@@ -121,7 +118,7 @@ module _ (T : ℕ) (start : List ℕ) where
       module _ (a : Outcome ℕ) (v : Verdict) (value : ℕ) (Done : Type 0) (answers : a ≡ outcome_after v value) (leaves : Leaves v Done u part) (spoiled : ¬ Sound u → v ≡ Refuse (refusal 13 0))
           (judged : Holds n.given n.terms u → (v ≡ judge (count_checks n asked)) × (value ≡ count_value n asked))
           (left : Holds n.given n.terms u → v ≡ Pass → Done → Left (count_next n asked (accepted value))) where
-        refusing : (r : Refusal) → v ≡ Refuse r → Between n (part ++ drop m s)
+        refusing : (r : Row) → v ≡ Refuse r → Between n (part ++ drop m s)
         refusing r e = subst (Between n) (sym (ap (λ l. l ++ drop m s) (subst (λ v. Leaves v Done u part) e leaves) ∙ take-append-drop m s)) b
 
         by-verdict : T ≤ m → (w : Verdict) → v ≡ w → Between (count_next n asked (outcome_after w value)) (part ++ drop m s)

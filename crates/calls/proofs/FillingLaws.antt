@@ -11,8 +11,8 @@ use mathlib.Core.Logic.{◌≢◌, ⊎_elim}
 use mathlib.Core.List.{List}
 use lib.ListN.{length, set, length-set}
 use lib.Seq.{get_or-set_same}
+use Rattle.numbers.specs.Refusals.{Pass}
 use Rattle.numbers.specs.Words.{word, tabulate}
-use Rattle.numbers.specs.declared.refusal.Verdict.TheVariants.{Pass}
 use Rattle.numbers.proofs.WordsLaws.{least-le, least_at, least-there}
 use Rattle.numbers.proofs.RefusalsLaws.{reduced, below-reduced}
 use Rattle.tiles.proofs.TileLaws.{set_below}

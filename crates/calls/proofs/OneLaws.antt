@@ -17,9 +17,7 @@ use borrow.Author.Tests.{ltb-false}
 use lib.Dec.{ltb}
 use lib.ListN.{length, take, drop}
 use Rattle.numbers.specs.Words.{low_word, choose, over}
-use Rattle.numbers.specs.Refusals.{judge, beyond_check, behind_check, Outcome, accepted, refused, outcome_after}
-use Rattle.numbers.specs.declared.refusal.Verdict.{Verdict}
-use Rattle.numbers.specs.declared.refusal.Verdict.TheVariants.{Pass, Refuse}
+use Rattle.numbers.specs.Refusals.{judge, beyond_check, behind_check, Outcome, accepted, refused, outcome_after, Verdict, Pass, Refuse}
 use Rattle.numbers.specs.One.{One, OneOutcome}
 use Rattle.numbers.proofs.OneLaws.{one_same}
 use Rattle.numbers.proofs.RefusalsLaws.{unlike, accepted-pass, pass-check}

@@ -5,7 +5,7 @@
 --   calls-broken, calls-unfit, calls-short, calls-pass   its verdict, case by case
 --   calls-lent         what the checks say of the calls where they pass
 --   call_long          a call leaves as many words as it found
---   made_none, made_more, made_all   no call, one more, and all
+--   made_none, made_more   no call, and one more
 --   made-done          with all calls made: what demand 3 says
 --   replay-refused, replay-done   what replay answers and leaves
 -- Assumes nothing.
@@ -21,10 +21,7 @@ use lib.Dec.{ltb, eqb}
 use lib.ListN.{length, take, drop, set, length-append, length-drop}
 use lib.Seq.{length-take-le}
 use Rattle.numbers.specs.Words.{low_word, choose, all, all_to, over}
-use Rattle.numbers.specs.Refusals.{check, judge, refusal, Outcome, accepted, refused, outcome_after, Leaves}
-use Rattle.numbers.specs.declared.refusal.Refusal.{Refusal}
-use Rattle.numbers.specs.declared.refusal.Verdict.{Verdict}
-use Rattle.numbers.specs.declared.refusal.Verdict.TheVariants.{Pass, Refuse}
+use Rattle.numbers.specs.Refusals.{check, judge, refusal, Outcome, accepted, refused, outcome_after, Leaves, Row, Verdict, Pass, Refuse}
 use Rattle.numbers.proofs.WordsLaws.{Writing, writing-store}
 use Rattle.numbers.proofs.TestsLaws.{all-at, all_to-at}
 use Rattle.numbers.proofs.RefusalsLaws.{take-check, skip-check, none-judged, pass-check}
@@ -190,9 +187,6 @@ made_more n calls start last old new h a part new' fits roomy x put =
       sheet = call_long last part c a (omega arith) x ∙ s;
     }
 
-pub made_all : (n m : ℕ) (calls start last old new : List ℕ) → n ≡ m → CallsMade n calls start last old new → CallsMade m calls start last old new
-made_all n m calls start last old new e h = subst (λ k. CallsMade k calls start last old new) e h
-
 pub made-done : (calls start last old new : List ℕ) → CallsMade (call_count calls) calls start last old new → ReplayDone (calls_to (call_count calls) calls) start last old new
 made-done calls start last old new h = record {
   answers = h.answers;
@@ -202,7 +196,7 @@ made-done calls start last old new h = record {
 }
 
 -- what replay answers and leaves, after its verdict
-pub replay-refused : (calls start old : List ℕ) (r : Refusal) → replay_verdict (length start) calls (length old) ≡ Refuse r
+pub replay-refused : (calls start old : List ℕ) (r : Row) → replay_verdict (length start) calls (length old) ≡ Refuse r
     → Replayed calls start old (refused r.number r.detail) start old
 replay-refused calls start old r e = record {
   answers = subst (λ v. ◌≡◌ {A = Outcome ℕ} (refused r.number r.detail) (outcome_after v (low_word (answer_count calls)))) (sym e) refl;

@@ -1,8 +1,8 @@
 -- A sheet that is as if its polynomial had been given so from the first.
 --   Afresh f k new   open accepts f, and `new` is the sheet of f worked to k terms, word for word
 -- Assumes nothing.
+use Rattle.numbers.specs.Refusals.{Pass}
 use Rattle.std.specs.Prelude.{ℕ, ◌≡◌, List, take}
-use Rattle.numbers.specs.declared.refusal.Verdict.TheVariants.{Pass}
 use Rattle.layout.specs.Layout.{end}
 use Rattle.sheet.specs.Sheet.{Given, Holds}
 use Rattle.open.specs.Open.{needed, open_verdict}

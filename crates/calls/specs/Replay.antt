@@ -10,9 +10,7 @@
 -- Assumes nothing.
 use Rattle.std.specs.Prelude.{ℕ, zero, suc, ◌+◌, ◌*◌, ◌/◌, ◌%◌, ◌≡◌, Bool, not, ◌||◌, List, [], ◌∷◌, ◌++◌, ltb, leb, eqb, length}
 use Rattle.numbers.specs.Words.{word, low_word, all, all_to, over}
-use Rattle.numbers.specs.Refusals.{Check, check, judge, Outcome, accepted, refused, outcome_after}
-use Rattle.numbers.specs.declared.refusal.Verdict.{Verdict}
-use Rattle.numbers.specs.declared.refusal.Verdict.TheVariants.{Pass, Refuse}
+use Rattle.numbers.specs.Refusals.{Check, check, judge, Outcome, accepted, refused, outcome_after, Verdict, Pass, Refuse}
 use Rattle.sheet.specs.Sheet.{Given}
 use Rattle.open.specs.Open.{Opened}
 use Rattle.calls.specs.Calls.{Asked, extend, correct, Call, Run, Kept}

@@ -3,15 +3,14 @@
 --   factor-pass   checks 10, 13 and 16 pass exactly for a factor of a sound sheet and an output of 4 words or more
 --   factor-put    four stores are the factor's words in place of the first four
 -- Assumes nothing.
-use Prim.Native.Nat.{ℕ, zero, suc, ◌+◌, ◌*◌, ◌≤◌, ◌<◌}
+use Prim.Native.Nat.{ℕ, ◌≤◌, ◌<◌}
 use native.Mathlib.Omega.{arith}
 use mathlib.Core.Path.{◌≡◌, refl, ◌∙◌}
 use mathlib.Core.List.{List, [], ◌∷◌}
 use borrow.Author.Tests.{ltb-false}
 use lib.ListN.{length, set}
 use Rattle.numbers.specs.Words.{over, all}
-use Rattle.numbers.specs.Refusals.{judge, refusal, room_check}
-use Rattle.numbers.specs.declared.refusal.Verdict.TheVariants.{Pass, Refuse}
+use Rattle.numbers.specs.Refusals.{judge, refusal, room_check, Pass, Refuse}
 use Rattle.numbers.proofs.RefusalsLaws.{pass-check}
 use Rattle.layout.specs.Layout.{count, root, power, factor_from, factor_size}
 use Rattle.sheet.specs.Sheet.{Sound}

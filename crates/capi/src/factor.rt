@@ -1,19 +1,19 @@
 // Reading a factor: root, power, and where its rows stand in the sheet.
 ghost use Rattle.std.specs.Prelude.{◌≡◌, ◌≤◌, ◌<◌, length};
 ghost use Rattle.numbers.specs.Words.{over};
-ghost use Rattle.numbers.specs.Refusals.{judge};
+ghost use Rattle.numbers.specs.Refusals.{judge, verdict};
 ghost use Rattle.layout.specs.Layout.{count};
 ghost use Rattle.sheet.specs.Sheet.{Sound};
 ghost use Rattle.capi.specs.Factor.{factor_checks, factor_words};
 
-use numbers::refusal::{Verdict, refuse};
+use numbers::refusal::Refusal;
 
 // Refusals 10, 13 and 16.
-pub fn check_factor(sheet: &[u32], i: u32, room: usize) -> Verdict
-    ensures { result ≡ judge (factor_checks sheet.now i room) }
+pub fn check_factor(sheet: &[u32], i: u32, room: usize) -> Result<(), Refusal>
+    ensures { verdict result ≡ judge (factor_checks sheet.now i room) }
 {
     if room < 4 {
-        return refuse(10, 4);
+        return Err(Refusal::Short(4));
     }
     sheet::check_read(sheet, i)
 }

@@ -3,8 +3,8 @@
 
 ghost use Rattle.std.specs.Prelude.{◌≡◌, cond, [], ◌∷◌, ◌+◌, ◌-◌, ◌*◌, length};
 ghost use Rattle.numbers.specs.Words.{over, low_word};
-ghost use Rattle.numbers.specs.Refusals.{judge, outcome, refused, outcome_after, written, Leaves};
-ghost use Rattle.residues.specs.Number.{number_outcome, sum_of, difference_of, product_of, inverse_number};
+ghost use Rattle.numbers.specs.Refusals.{judge, outcome, refused, outcome_after, written, Leaves, number, detail};
+ghost use Rattle.residues.specs.Number.{sum_of, difference_of, product_of, inverse_number};
 ghost use Rattle.series.specs.Series.{series_checks, known_checks, inverse_checks, sums, differences, product, quotient};
 ghost use Rattle.series.specs.Quotient.{least_power, quotient_checks, QuotientDone};
 ghost use Rattle.rows.specs.Rows.{rows_checks, product_checks, shift_checks, row_sum, row_product, row_shift};
@@ -28,32 +28,32 @@ ghost use Rattle.typed.specs.Key.{Keyed};
 ghost use Rattle.capi.specs.Packed.{packed, packed_number, Packs};
 ghost use Rattle.capi.specs.Factor.{factor_checks, factor_words};
 
-use numbers::refusal::{Answer, Refusal, Verdict};
-use residues::{Number, NumberAnswer};
+use numbers::refusal::Refusal;
+use residues::Number;
 
 mod factor; // reading a factor
 
 fn pack_refusal(r: Refusal) -> u64
-    ensures { result ≡ packed (refused r.number r.detail) }
+    ensures { result ≡ packed (refused (number r) (detail r)) }
 {
-    (r.number as u64) * 4294967296 + r.detail as u64
+    (r.number() as u64) * 4294967296 + r.detail() as u64
 }
 
-fn pack(a: Answer) -> u64
+fn pack(a: Result<u32, Refusal>) -> u64
     ensures { result ≡ packed (outcome a) }
 {
     match a {
-        Answer::Done(n) => n as u64,
-        Answer::Refused(r) => pack_refusal(r),
+        Ok(n) => n as u64,
+        Err(r) => pack_refusal(r),
     }
 }
 
-fn pack_number(a: NumberAnswer) -> u64
-    ensures { result ≡ packed_number (number_outcome a) }
+fn pack_number(a: Result<Number, Refusal>) -> u64
+    ensures { result ≡ packed_number (outcome a) }
 {
     match a {
-        NumberAnswer::Is(n) => n.value as u64,
-        NumberAnswer::Refused(r) => pack_refusal(r),
+        Ok(n) => n.value as u64,
+        Err(r) => pack_refusal(r),
     }
 }
 
@@ -272,7 +272,7 @@ pub extern "C" fn bk_sheet_factor(sheet: &[u32], i: u32, out: &mut [u32]) -> u64
     ensures words { out.new ≡ written (judge (factor_checks sheet.now i (length out.old)))
         (over (factor_words sheet.now i) out.old) out.old }
 {
-    if let Verdict::Refuse(r) = factor::check_factor(sheet, i, out.len()) {
+    if let Err(r) = factor::check_factor(sheet, i, out.len()) {
         return pack_refusal(r);
     }
     factor::put_factor(sheet, i, out);

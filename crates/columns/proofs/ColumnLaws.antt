@@ -27,9 +27,6 @@ pub record Sinking (f : ℕ → ℕ) (s e : List ℕ) (j : ℕ) : Type 0 where
   pub kept : (k : ℕ) → k < j → word e k ≡ word s k
   pub done : (k : ℕ) → j ≤ k → k < length s → word e k ≡ f k
 
-pub sinking-none : (f : ℕ → ℕ) (s : List ℕ) → Sinking f s s (length s)
-sinking-none f s = record { long = refl; kept = λ k l. refl; done = λ k l g. absurd (let z : ⊥ = omega arith in z) }
-
 pub sinking-store : (f : ℕ → ℕ) (s e : List ℕ) (j v : ℕ) → Sinking f s e j → 0 < j → j ≤ length s → v ≡ f (j - 1) → Sinking f s (set e (j - 1) v) (j - 1)
 sinking-store f s e j v w pos h q = record {
   long = length-set e (j - 1) v ∙ w.long;
@@ -232,9 +229,6 @@ module _ (p : ℕ) (pos : 1 ≤ p) where
 pub digit-rest : (h : List ℕ) (q : ℕ) → from (set h 0 q) 1 ≡ drop 1 h
 digit-rest h q = from_is (set h 0 q) 1 ∙ drop-set-lt 1 h 0 q (omega arith)
 
-pub digit-rest-length : (p c : ℕ) (e h : List ℕ) (q : ℕ) → h ≡ horner_words p c e → length (from (set h 0 q) 1) ≡ length e - 1
-digit-rest-length p c e h q x = ap length (digit-rest h q ∙ ap (drop 1) x) ∙ length_rest p c e
-
 module _ (p c w : ℕ) (a : List ℕ) where
   -- the digit's words, and what is left after it
   pub digit-words : (e : List ℕ) → digit_words p c w a e ≡ digit_of p c w e ∷ less_multiple p (digit_of p c w e) a (drop 1 (horner_words p c e))
@@ -345,16 +339,6 @@ pub tabulate-words : (s : List ℕ) → tabulate (length s) (word s) ≡ s
 tabulate-words s =
     ext_get_or 0 (tabulate (length s) (word s)) s (length-tabulate (length s) (word s))
     (λ i l. word-tabulate (length s) (word s) i (omega (arith, length-tabulate (length s) (word s))))
-
--- a difference modulo p, as `less` takes it
-pub less-low : (p x y : ℕ) → x < p → y ≤ x → x - y ≡ (x + (p - y)) % p
-less-low p x y l g =
-    let e : x + (p - y) ≡ x - y + p = omega arith in
-    let u : x - y < p = omega arith in
-    sym (ap (λ (z : ℕ). z % p) e ∙ add-mod_right (x - y) p ∙ mod-eq_of_lt u)
-
-pub less-high : (p x y : ℕ) → y < p → x < y → x + (p - y) ≡ (x + (p - y)) % p
-less-high p x y l g = let u : x + (p - y) < p = omega arith in sym (mod-eq_of_lt u)
 
 -- a row of n words among others, and 0 past it
 pub fitted-row : (f : List ℕ) (j n w : ℕ) → j * n + n ≤ length f → tabulate w (word (take (j * n + n - j * n) (drop (j * n) f))) ≡ tabulate w (up_to n (λ t. word f (j * n + t)))

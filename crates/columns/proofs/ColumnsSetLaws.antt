@@ -1,6 +1,6 @@
--- Columns that a loop sets row after row (`ColumnsSet`): none yet, one row more, and the rows that `clear` and `put_columns` write.
+-- Columns that a loop sets row after row (`ColumnsSet`): one row more, and the rows that `clear` and `put_columns` write.
 -- Assumes nothing.
-use mathlib.Core.Path.{◌≡◌, refl, sym, ap, subst, ◌∙◌}
+use mathlib.Core.Path.{◌≡◌, sym, ap, subst, ◌∙◌}
 use mathlib.Core.Logic.{⊎_elim}
 use mathlib.Core.List.{List}
 use Prim.Native.Nat.{ℕ, ◌+◌, ◌-◌, ◌*◌, ◌≤◌, ◌<◌}
@@ -15,9 +15,6 @@ use Rattle.columns.specs.internal.Column.{ColumnsSet}
 use Rattle.columns.proofs.ColumnLaws.{put, put-long, put-before, put_in, put-past, length-lent}
 
 module _ (N h w : ℕ) (g : ℕ → ℕ → ℕ) where
-  pub set-none : (s : List ℕ) → ColumnsSet N h w 0 g s s
-  set-none s = record { long = refl; set = λ j l. omega arith; others = λ j l. omega arith; past = λ z l. refl }
-
   -- row j, where y was put from column h on
   pub set-step : h ≤ w → w ≤ N → (rows j len : ℕ) (s e y : List ℕ) → j < rows → length s ≡ rows * N → len ≡ w - h
       → length y ≡ len → ((i : ℕ) → i < len → word y i ≡ g j (h + i)) → ColumnsSet N h w j g s e → ColumnsSet N h w (j + 1) g s (put (j * N + h) len e y)

@@ -22,9 +22,7 @@ pub fn horner(p: u32, c: u32, e: &mut [u32])
     requires { (1 ≤ p) × (p < modulus_bound) × (c < p) × (1 ≤ length e.old) × AllBelow p e.old }
     ensures { e.new ≡ horner_words p c e.old }
 {
-    let mut j = e.len() - 1;
-    while 0 < j {
-        j -= 1;
+    for j in (0..e.len() - 1).rev() {
         e[j] = ((e[j] as u64 + (c as u64) * (e[j + 1] as u64)) % (p as u64)) as u32;
     }
 }
@@ -34,11 +32,9 @@ pub fn less_multiple(p: u32, q: u32, a: &[u32], e: &mut [u32])
     requires { (1 ≤ p) × (p < modulus_bound) × (length a.now ≤ length e.old) }
     ensures { e.new ≡ less_multiple p q a.now e.old }
 {
-    let mut j = 0;
-    while j < a.len() {
+    for j in 0..a.len() {
         let x = (q as u64) * (a[j] as u64) % (p as u64);
         e[j] = ((e[j] as u64 + (p as u64 - x)) % (p as u64)) as u32;
-        j += 1;
     }
 }
 
@@ -60,10 +56,8 @@ pub fn line_times(p: u32, c: u32, e: &mut [u32])
     ensures { e.new ≡ line_times p c e.old }
 {
     let last = e.len() - 1;
-    let mut j = 0;
-    while j < last {
+    for j in 0..last {
         e[j] = ((e[j] as u64 + ((p - c) as u64) * (e[j + 1] as u64)) % (p as u64)) as u32;
-        j += 1;
     }
 }
 
@@ -73,10 +67,7 @@ pub fn less(p: u32, x: u32, sum: u64) -> u32
     ensures { result ≡ (x + (p - sum % p)) % p }
 {
     let y = (sum % (p as u64)) as u32;
-    if y <= x {
-        return x - y;
-    }
-    x + (p - y)
+    if y <= x { x - y } else { x + (p - y) }
 }
 
 // Column t of f less the products of P's and A's columns between: what the columns t of P and A have to come to.
@@ -96,11 +87,9 @@ pub fn gather(
     ensures { e.new ≡ tabulate (length e.old)
         (λ j. (word f.now (j * n + t) + (p - middle_sum (rows_of low.now n m) (rows_of high.now n k) j t % p)) % p) }
 {
-    let mut j = 0;
-    while j < e.len() {
+    for j in 0..e.len() {
         let sum = passes(low, m, high, k, n, j, 1, t - 1);
         e[j] = less(p, f[j * n + t], sum);
-        j += 1;
     }
 }
 
@@ -109,10 +98,8 @@ pub fn load_column(f: &[u32], n: usize, t: usize, e: &mut [u32])
     requires { (n ≤ largest_width) × (t < n) × (length e.old ≤ most_rows) × (length e.old * n ≤ length f.now) }
     ensures { e.new ≡ tabulate (length e.old) (λ j. word f.now (j * n + t)) }
 {
-    let mut j = 0;
-    while j < e.len() {
+    for j in 0..e.len() {
         e[j] = f[j * n + t];
-        j += 1;
     }
 }
 
@@ -121,10 +108,8 @@ pub fn store_column(e: &[u32], n: usize, t: usize, out: &mut [u32])
     requires { (n ≤ largest_width) × (t < n) × (length e.now ≤ most_rows) × (length e.now * n ≤ length out.old) }
     ensures { ColumnStored n t e.now out.old out.new }
 {
-    let mut j = 0;
-    while j < e.len() {
+    for j in 0..e.len() {
         out[j * n + t] = e[j];
-        j += 1;
     }
 }
 
@@ -152,11 +137,7 @@ pub fn copy(words: &[u32], out: &mut [u32])
     requires { length words.now ≤ length out.old }
     ensures { out.new ≡ over words.now out.old }
 {
-    let mut i = 0;
-    while i < words.len() {
-        out[i] = words[i];
-        i += 1;
-    }
+    out[..words.len()].copy_from_slice(words)
 }
 
 // 0 from column w on, in every row.
@@ -164,12 +145,10 @@ pub fn clear(n: usize, w: usize, d: usize, rows: &mut [u32])
     requires { (w ≤ n) × (n ≤ largest_width) × (d ≤ most_rows) × (length rows.old ≡ d * n) }
     ensures { ColumnsSet n w n d (λ _ _. 0) rows.old rows.new }
 {
-    let mut j = 0;
-    while j < d {
+    for j in 0..d {
         let a = j * n + w;
         let e = j * n + n;
         repeat(0, &mut rows[a..e]);
-        j += 1;
     }
 }
 
@@ -178,12 +157,10 @@ pub fn put_columns(f: &[u32], n: usize, h: usize, w: usize, d: usize, rows: &mut
     requires { (h ≤ w) × (w ≤ n) × (n ≤ largest_width) × (d ≤ most_rows) × (length f.now ≡ d * n) × (length rows.old ≡ d * n) }
     ensures { ColumnsSet n h w d (λ j t. word f.now (j * n + t)) rows.old rows.new }
 {
-    let mut j = 0;
-    while j < d {
+    for j in 0..d {
         let a = j * n + h;
         let e = j * n + w;
         copy(&f[a..e], &mut rows[a..e]);
-        j += 1;
     }
 }
 
@@ -191,10 +168,8 @@ pub fn put_columns(f: &[u32], n: usize, h: usize, w: usize, d: usize, rows: &mut
 fn fit_row(row: &[u32], out: &mut [u32])
     ensures { out.new ≡ tabulate (length out.old) (word row.now) }
 {
-    let mut t = 0;
-    while t < out.len() {
+    for t in 0..out.len() {
         out[t] = word_or_zero(row, t);
-        t += 1;
     }
 }
 
@@ -203,13 +178,11 @@ pub fn fit_rows(f: &[u32], n: usize, w: usize, rows: usize, out: &mut [u32])
     requires { (n ≤ largest_width) × (w ≤ largest_width) × (rows ≤ most_rows) × (length f.now ≡ rows * n) × (length out.old ≡ rows * w) }
     ensures { out.new ≡ table rows w (λ j. up_to n (λ t. word f.now (j * n + t))) }
 {
-    let mut j = 0;
-    while j < rows {
+    for j in 0..rows {
         let a = j * n;
         let e = a + n;
         let b = j * w;
         let c = b + w;
         fit_row(&f[a..e], &mut out[b..c]);
-        j += 1;
     }
 }

@@ -17,8 +17,7 @@ use lib.Dec.{ltb, leb}
 use lib.ListN.{length, set}
 use borrow.Author.Tests.{lt-ltb, le-ltb, ltb-true, le-leb, lt-leb, leb-true, leb-false, not-false}
 use Rattle.numbers.specs.Words.{choose, all}
-use Rattle.numbers.specs.Refusals.{judge, refusal}
-use Rattle.numbers.specs.declared.refusal.Verdict.TheVariants.{Pass, Refuse}
+use Rattle.numbers.specs.Refusals.{judge, refusal, Pass, Refuse}
 use Rattle.numbers.specs.One.{OneOutcome}
 use Rattle.numbers.proofs.OneLaws.{verdict-one}
 use Rattle.numbers.proofs.WordsLaws.{lt-or-ge}

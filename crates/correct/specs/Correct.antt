@@ -8,8 +8,7 @@
 -- Assumes nothing.
 use Rattle.std.specs.Prelude.{ℕ, ◌+◌, ◌*◌, ◌≡◌, Bool, not, ◌≢◌, List, [], ◌∷◌, ltb, leb, length, set}
 use Rattle.numbers.specs.Words.{word, all}
-use Rattle.numbers.specs.Refusals.{Check, check, judge, Outcome, outcome_after, Leaves}
-use Rattle.numbers.specs.declared.refusal.Verdict.{Verdict}
+use Rattle.numbers.specs.Refusals.{Check, check, judge, Outcome, outcome_after, Leaves, Verdict}
 use Rattle.layout.specs.Layout.{modulus, degree, terms, known, entry_at, InColumns}
 use Rattle.sheet.specs.Sheet.{Sound, Given, given_of}
 use Rattle.sheet.specs.Reading.{sound_check}

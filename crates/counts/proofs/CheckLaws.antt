@@ -4,9 +4,8 @@ use Prim.Native.Nat.{ℕ, ◌+◌, ◌^◌, ◌<◌}
 use native.Mathlib.Omega.{arith}
 use mathlib.Core.Path.{◌≡◌}
 use borrow.Author.Tests.{ltb-false}
-use Rattle.numbers.specs.Refusals.{judge, modulus_checks}
+use Rattle.numbers.specs.Refusals.{judge, modulus_checks, Pass}
 use Rattle.numbers.specs.Limits.{largest_degree}
-use Rattle.numbers.specs.declared.refusal.Verdict.TheVariants.{Pass}
 use Rattle.numbers.proofs.RefusalsLaws.{pass-parts, pass-check, inside, modulus-pass}
 use Rattle.counts.specs.Counts.{most_polynomials, counts_checks}
 use Rattle.counts.specs.internal.Counting.{Countable}

@@ -1,12 +1,11 @@
 -- The steps of counting.
---   power-next, power-early, power-done   p^d, or one more than are counted
 --   sets-bound, powers-bound      C(p, r) and C(D − 1, r) are small
 --   split-made                    C(p, r + 1) · C(D − 1, r) is a count, and small
 --   taken, total_first, taken-enough, taken_next, taken-all   what the counts leave of p^D
 --   Writes, writes-none, writes-next, writes-all   words 1 to r are written, and at last word 0
 -- Assumes nothing.
 use Prim.Native.Nat.{ℕ, suc, ◌+◌, ◌-◌, ◌*◌, ◌^◌, min, ◌≤◌, ◌<◌}
-use native.Mathlib.Nat.{pow-suc, pow-le-pow_right, pow-le-pow_left}
+use native.Mathlib.Nat.{pow-le-pow_right, pow-le-pow_left}
 use native.Mathlib.Numerals.{add-one}
 use native.Mathlib.Omega.{arith}
 use mathlib.Core.Path.{◌≡◌, sym, ◌∙◌, ap, ap₂, subst}
@@ -20,15 +19,6 @@ use Rattle.counts.specs.Counts.{subsets, counted, count_words, most_polynomials}
 use Rattle.counts.specs.internal.Counting.{Countable}
 use Rattle.counts.proofs.SubsetsLaws.{subsets-le, subsets-low}
 use Rattle.counts.proofs.CountsLaws.{counts-formula, counts-total, counted-le}
-
-pub power-next : (p i n : ℕ) → n ≡ p ^ i → n * p ≡ p ^ (i + 1)
-power-next p i n e = ap (λ x. x * p) e ∙ sym (pow-suc p i) ∙ ap (λ k. p ^ k) (sym (add-one i))
-
-pub power-early : (p d i : ℕ) → 1 ≤ p → i ≤ d → most_polynomials < p ^ i → most_polynomials + 1 ≡ min (p ^ d) (most_polynomials + 1)
-power-early p d i one l g = let z = pow-le-pow_right {n = p} one l in omega arith
-
-pub power-done : (p d : ℕ) → p ^ d ≤ most_polynomials → p ^ d ≡ min (p ^ d) (most_polynomials + 1)
-power-done p d l = omega arith
 
 -- what the first r counts come to, r = 0 left out
 abbrev pub taken : (p D r : ℕ) → ℕ

@@ -21,8 +21,7 @@ use Rattle.algebra.specs.Prime.{Prime}
 use Rattle.algebra.specs.Sums.{sum_to}
 use Rattle.algebra.proofs.SumsLaws.{sum_to-front, sum_to-ext, sum_to-zeros, sum_to-single, sum_to-count, sum_to-some}
 use Rattle.numbers.specs.Words.{word, rising}
-use Rattle.numbers.specs.Refusals.{judge, refusal, unreduced}
-use Rattle.numbers.specs.declared.refusal.Verdict.TheVariants.{Pass, Refuse}
+use Rattle.numbers.specs.Refusals.{judge, refusal, unreduced, Pass, Refuse}
 use Rattle.numbers.proofs.WordsLaws.{true-false}
 use Rattle.numbers.proofs.RefusalsLaws.{both, reduced}
 use Rattle.numbers.proofs.EnumerationLaws.{bit, none as no-sum, sum_over, sum_over-add, sum_over-scale, sum_over-swap, sum_over-sum_to, sum_over-every}

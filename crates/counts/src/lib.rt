@@ -4,14 +4,14 @@
 
 ghost use Rattle.std.specs.Prelude.{◌≡◌, ◌+◌, ◌^◌, min, ◌≤◌, ◌<◌, length};
 ghost use Rattle.numbers.specs.Words.{over};
-ghost use Rattle.numbers.specs.Refusals.{judge, outcome, outcome_after, written};
+ghost use Rattle.numbers.specs.Refusals.{judge, outcome, outcome_after, written, verdict};
 ghost use Rattle.numbers.specs.internal.Limits.{modulus_bound};
 ghost use Rattle.counts.specs.Counts.{subsets, count_words, most_polynomials, counts_checks};
 ghost use Rattle.counts.specs.internal.Counting.{Countable};
 
 use numbers::judge::{check_modulus, outside};
 use numbers::limits::LARGEST_DEGREE;
-use numbers::refusal::{Answer, Verdict, refuse};
+use numbers::refusal::Refusal;
 
 const MOST_POLYNOMIALS: u64 = 65536;
 
@@ -20,17 +20,7 @@ fn polynomials(p: u32, d: u32) -> u64
     requires { (1 ≤ p) × (p < modulus_bound) }
     ensures { result ≡ min (p ^ d) (most_polynomials + 1) }
 {
-    let factor = p as u64;
-    let mut n: u64 = 1;
-    let mut i: u32 = 0;
-    while i < d {
-        n *= factor;
-        if MOST_POLYNOMIALS < n {
-            return MOST_POLYNOMIALS + 1;
-        }
-        i += 1;
-    }
-    n
+    (p as u64).saturating_pow(d).min(MOST_POLYNOMIALS + 1)
 }
 
 // C(n, i + 1), where c is C(n, i).
@@ -39,9 +29,10 @@ fn next_subsets(n: u32, i: u32, c: u64) -> u64
     ensures { result ≡ subsets n (i + 1) }
 {
     if n <= i {
-        return 0;
+        0
+    } else {
+        c * (n - i) as u64 / (i as u64 + 1)
     }
-    c * (n - i) as u64 / (i as u64 + 1)
 }
 
 // The words, at the front of `out`. Word 0 is what the others leave of p^d.
@@ -52,48 +43,41 @@ fn write_counts(p: u32, d: u32, out: &mut [u32])
     let mut unsplit = polynomials(p, d);
     let mut sets: u64 = 1; // C(p, r)
     let mut powers: u64 = 1; // C(d − 1, r)
-    let mut r: u32 = 0;
-    while r < d {
+    for r in 0..d {
         sets = next_subsets(p, r, sets);
         let split = sets * powers;
         powers = next_subsets(d - 1, r, powers);
         unsplit -= split;
-        r += 1;
-        out[r as usize] = split as u32;
+        out[r as usize + 1] = split as u32;
     }
     out[0] = unsplit as u32;
 }
 
 // Refusals 1, 2, 3, 24 and 10.
-fn check_counts(p: u32, d: u32, room: usize) -> Verdict
-    ensures { result ≡ judge (counts_checks p d room) }
+fn check_counts(p: u32, d: u32, room: usize) -> Result<(), Refusal>
+    ensures { verdict result ≡ judge (counts_checks p d room) }
 {
-    let v = check_modulus(p);
-    if let Verdict::Refuse(_) = v {
-        return v;
-    }
+    check_modulus(p)?;
     if outside(1, LARGEST_DEGREE, d) {
-        return refuse(3, 0);
+        return Err(Refusal::Degree);
     }
     if MOST_POLYNOMIALS < polynomials(p, d) {
-        return refuse(24, 0);
+        return Err(Refusal::Many);
     }
     let words = d + 1;
     if room < words as usize {
-        return refuse(10, words);
+        return Err(Refusal::Short(words));
     }
-    Verdict::Pass
+    Ok(())
 }
 
 // Of the monic polynomials of degree d over F_p: how many do not split, and how many split with 1, 2, .., d distinct roots, as d + 1 words at the
 // front of `out`. The answer is d + 1.
-pub fn counts(p: u32, d: u32, out: &mut [u32]) -> Answer
+pub fn counts(p: u32, d: u32, out: &mut [u32]) -> Result<u32, Refusal>
     ensures answer { outcome result ≡ outcome_after (judge (counts_checks p d (length out.old))) (d + 1) }
     ensures words { out.new ≡ written (judge (counts_checks p d (length out.old))) (over (count_words p d) out.old) out.old }
 {
-    if let Verdict::Refuse(r) = check_counts(p, d, out.len()) {
-        return Answer::Refused(r);
-    }
+    check_counts(p, d, out.len())?;
     write_counts(p, d, out);
-    Answer::Done(d + 1)
+    Ok(d + 1)
 }

@@ -62,9 +62,7 @@ pub fn split_columns(
     requires { SplitReady p n m k p0.now a0.now table.now h w rows.old × (length e.old ≡ m + k) × (length column.old ≡ m + k) }
     ensures { SplitTo p n m k p0.now a0.now h w rows.old rows.new }
 {
-    let mut t = h;
-    while t < w {
+    for t in h..w {
         split_column(p, m, k, table, n, t, e, column, rows);
-        t += 1;
     }
 }

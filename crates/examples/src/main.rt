@@ -9,79 +9,57 @@ ghost use Rattle.numbers.specs.Limits.{largest_width};
 ghost use Rattle.rows.specs.Rows.{product_checks, row_product};
 
 use numbers::limits::{LARGEST_DEGREE, MOST_ROOTS};
-use numbers::refusal::{Answer, Refusal};
-use residues::{Number, NumberAnswer};
-use series::kernel::{lesser, repeat};
+use numbers::refusal::Refusal;
+use residues::Number;
 use std::io;
 use std::io::Print;
 
-fn say(rt: &HostRuntime, text: &[u8]) -> io::Result<()> {
-    rt.write_all(text)
-}
-
-fn say_number(rt: &HostRuntime, n: u32) -> io::Result<()> {
-    print!(rt; "{n}")
-}
-
-fn say_refusal(rt: &HostRuntime, r: Refusal) -> io::Result<()> {
-    say(rt, b"refused ")?;
-    say_number(rt, r.number)?;
-    say(rt, b" ")?;
-    say_number(rt, r.detail)
-}
-
-// The value, or `refused`, number, detail.
-fn say_number_answer(rt: &HostRuntime, a: NumberAnswer) -> io::Result<()> {
+// The value, or the refusal.
+fn say_number(rt: &HostRuntime, a: Result<Number, Refusal>) -> io::Result<()> {
     match a {
-        NumberAnswer::Is(n) => {
-            say_number(rt, n.value)?;
-            say(rt, b" mod ")?;
-            say_number(rt, n.p)?;
-        }
-        NumberAnswer::Refused(r) => say_refusal(rt, r)?,
+        Ok(number) => println!(rt; "{number}"),
+        Err(refusal) => println!(rt; "{refusal}"),
     }
-    say(rt, b"\n")
 }
 
 // All four operations on one pair of words.
 fn all_four(rt: &HostRuntime, p: u32, value: u32, other: u32) -> io::Result<()> {
     let a = Number { p, value };
-    say(rt, b"sum ")?;
-    say_number_answer(rt, a.sum(other))?;
-    say(rt, b"difference ")?;
-    say_number_answer(rt, a.difference(other))?;
-    say(rt, b"product ")?;
-    say_number_answer(rt, a.product(other))?;
-    say(rt, b"inverse ")?;
-    say_number_answer(rt, a.inverse())
+    print!(rt; "sum ")?;
+    say_number(rt, a.sum(other))?;
+    print!(rt; "difference ")?;
+    say_number(rt, a.difference(other))?;
+    print!(rt; "product ")?;
+    say_number(rt, a.product(other))?;
+    print!(rt; "inverse ")?;
+    say_number(rt, a.inverse())
 }
 
 fn say_list(rt: &HostRuntime, words: &[u32]) -> io::Result<()> {
-    let mut i = 0;
-    while i < words.len() {
-        say(rt, b" ")?;
-        say_number(rt, words[i])?;
-        i += 1;
+    for word in words {
+        print!(rt; " {word}")?;
     }
-    Ok(())
+    println!(rt;)
 }
 
 // What a call answered, and every word that it was lent.
-fn say_words(rt: &HostRuntime, a: Answer, out: &[u32]) -> io::Result<()> {
+fn say_words(rt: &HostRuntime, a: Result<u32, Refusal>, out: &[u32]) -> io::Result<()> {
     match a {
-        Answer::Done(n) => {
-            say(rt, b"done ")?;
-            say_number(rt, n)?;
-        }
-        Answer::Refused(r) => say_refusal(rt, r)?,
+        Ok(n) => print!(rt; "done {n}:")?,
+        Err(refusal) => print!(rt; "{refusal}:")?,
     }
-    say(rt, b":")?;
-    say_list(rt, out)?;
-    say(rt, b"\n")
+    say_list(rt, out)
 }
 
 // Two series of n words that stand somewhere in a larger slice, multiplied where they stand.
-fn product_of_parts(p: u32, n: u32, words: &[u32], a: usize, b: usize, out: &mut [u32]) -> Answer
+fn product_of_parts(
+    p: u32,
+    n: u32,
+    words: &[u32],
+    a: usize,
+    b: usize,
+    out: &mut [u32],
+) -> Result<u32, Refusal>
     requires { (n ≤ largest_width) × (a + n ≤ length words.now) × (b + n ≤ length words.now) }
     ensures answer { outcome result ≡ outcome_after (judge (product_checks p 0 0 n (part words.now a n) (part words.now b n) (length out.old))) ((0 + 0 + 1) * n) }
     ensures words { out.new ≡ written (judge (product_checks p 0 0 n (part words.now a n) (part words.now b n) (length out.old)))
@@ -171,9 +149,8 @@ fn say_open(
     roots: &[u32],
     sheet: &mut [u32],
 ) -> io::Result<()> {
-    let mut lengths = [0u32; MOST_ROOTS];
-    repeat(n, &mut lengths);
-    let count = lesser(d, LARGEST_DEGREE) as usize;
+    let lengths = [n; MOST_ROOTS];
+    let count = d.min(LARGEST_DEGREE) as usize;
     say_known(rt, p, d, n, f, &lengths[..count], roots, sheet)
 }
 
@@ -310,15 +287,14 @@ fn long_pair(rt: &HostRuntime) -> io::Result<()> {
 
 fn say_test(rt: &HostRuntime, s: &[u32]) -> io::Result<()> {
     if sheet::test(s) {
-        say(rt, b"sound\n")?;
+        println!(rt; "sound")
     } else {
-        say(rt, b"not sound\n")?;
+        println!(rt; "not sound")
     }
-    Ok(())
 }
 
 // A sheet of which only the first words are lent.
-fn extend_front(s: &mut [u32], lent: usize, w: u32) -> Answer
+fn extend_front(s: &mut [u32], lent: usize, w: u32) -> Result<u32, Refusal>
     requires { lent ≤ length s.old }
 {
     extend::extend(&mut s[..lent], w)
@@ -339,7 +315,6 @@ fn job_sheet(rt: &HostRuntime) -> io::Result<()> {
     say_extend(rt, &mut s, 4)?;
     say_words(rt, extend_front(&mut s, 31, 3), &s)?;
     say_list(rt, sheet::factor_rows(&s, 1))?;
-    say(rt, b"\n")?;
     s[27] = 5;
     say_test(rt, &s)?;
     say_extend(rt, &mut s, 3)
@@ -380,7 +355,6 @@ fn job_calls(rt: &HostRuntime) -> io::Result<()> {
     let mut answers = [9u32; 17];
     say_words(rt, calls::replay(&mut s, &calls, &mut answers), &answers)?;
     say_list(rt, &s)?;
-    say(rt, b"\n")?;
     let mut few = [9u32; 15];
     say_words(rt, calls::replay(&mut s, &calls, &mut few), &few)?;
     // a call that lends more than there is, one of kind 2, an extend with a word too much, and a list with a word too few

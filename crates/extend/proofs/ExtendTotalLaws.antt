@@ -12,9 +12,7 @@ use mathlib.Core.Bool.{true, ◌||◌}
 use mathlib.Core.List.{List, [], ◌∷◌}
 use borrow.Author.Tests.{ltb-false, lt-ltb, le-ltb}
 use Rattle.numbers.specs.Words.{outside}
-use Rattle.numbers.specs.Refusals.{beyond_check, behind_check, judge, refusal, Outcome, Leaves}
-use Rattle.numbers.specs.declared.refusal.Verdict.{Verdict}
-use Rattle.numbers.specs.declared.refusal.Verdict.TheVariants.{Pass, Refuse}
+use Rattle.numbers.specs.Refusals.{beyond_check, behind_check, judge, refusal, Outcome, Leaves, Verdict, Pass, Refuse}
 use Rattle.numbers.specs.One.{OneOutcome}
 use Rattle.numbers.proofs.OneLaws.{verdict-one}
 use Rattle.numbers.proofs.RefusalsLaws.{none-judged, inside, pass-check, take-check, skip-check}

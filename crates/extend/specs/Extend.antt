@@ -5,8 +5,7 @@
 -- Assumes nothing.
 use Rattle.std.specs.Prelude.{ℕ, ◌≡◌, ◌≢◌, List, [], ◌∷◌, length}
 use Rattle.numbers.specs.Words.{word}
-use Rattle.numbers.specs.Refusals.{Check, beyond_check, behind_check, judge, Outcome, outcome_after, Leaves}
-use Rattle.numbers.specs.declared.refusal.Verdict.{Verdict}
+use Rattle.numbers.specs.Refusals.{Check, beyond_check, behind_check, judge, Outcome, outcome_after, Leaves, Verdict}
 use Rattle.layout.specs.Layout.{terms_at, terms, reach, InColumns}
 use Rattle.sheet.specs.Sheet.{Sound}
 use Rattle.sheet.specs.Reading.{sound_check}

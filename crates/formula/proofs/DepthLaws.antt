@@ -3,10 +3,8 @@
 use mathlib.Core.Path.{◌≡◌, refl, sym, ap, ◌∙◌, subst}
 use mathlib.Core.List.{List, [], ◌∷◌, ◌++◌, append_assoc, append-nil}
 use Prim.Native.Nat.{ℕ, suc, ◌+◌, ◌-◌, ◌≤◌, ◌<◌, max}
-use native.Mathlib.Numerals.{add-one}
 use native.Mathlib.Omega.{arith}
-use lib.ListN.{length, get_or, drop, drop_of_length-le}
-use lib.Seq.{drop-cons}
+use lib.ListN.{length, drop, drop_of_length-le}
 use Rattle.formula.specs.Formula.{Sign, plus, minus, Lead, none, sign, Element, number, letter_x, letter_y, bracket, Power, plain, raised, Term, one, times, Sum, first, more, element_depth, power_depth, term_depth, sum_depth}
 use Rattle.formula.specs.Grammar.{Blanks, no-blank, blank, Digits, no_digit, digit, Symbol, NumberText, SignText, LeadText, ElementText, PowerText, TermText, SumText}
 use Rattle.formula.specs.internal.Scan.{kind_of, by_kind}
@@ -146,10 +144,7 @@ pub depth_is : (f : Sum) (s : List ℕ) → SumText f s → deepest 0 0 s ≡ su
 unfolding deepest
 depth_is f s y = ap (λ (x : List ℕ). deepest 0 0 x) (sym (append-nil s)) ∙ deep-sum f s y 0 0 [] (omega arith) ∙ (let e : max 0 (0 + sum_depth f) ≡ sum_depth f = omega arith in e)
 
--- from a place of a text on
-pub deep-byte : (s : List ℕ) (i d m : ℕ) → i < length s → deepest d m (drop i s) ≡ deepest d m (get_or s i 0 ∷ drop (i + 1) s)
-deep-byte s i d m l = ap (λ (x : List ℕ). deepest d m x) (drop-cons s i 0 l ∙ ap (λ (n : ℕ). get_or s i 0 ∷ drop n s) (sym (add-one i)))
-
+-- past the end of a text
 pub deep-end : (s : List ℕ) (i d m : ℕ) → length s ≤ i → deepest d m (drop i s) ≡ m
 unfolding deepest
 deep-end s i d m l = ap (λ (x : List ℕ). deepest d m x) (drop_of_length-le s l)

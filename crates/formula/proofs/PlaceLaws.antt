@@ -108,13 +108,6 @@ blank-byte b = go (eqb b 32)
         late (eqb b 88) LetterX _ refl (late (eqb b 89) LetterY _ refl (late (eqb b 43) Plus _ refl (late (eqb b 45) Minus _ refl (late (eqb b 42) Star _ refl
         (late (eqb b 94) Caret _ refl (late (eqb b 40) Open _ refl (late (eqb b 41) Close _ refl (late (ltb b 48) Other _ refl (late (ltb 57 b) Other (Digit (b - 48)) refl refl)))))))))
 
-pub blank-inside : (s : List ℕ) (q : ℕ) → is_blank (kind_at s q) ≡ true → q < length s
-blank-inside s q e = is-inside s q (λ o. true-false (sym (ap is_blank (sym o) ∙ e)))
-
-pub scan-blank : (s : List ℕ) (q : ℕ) (st : State) → is_blank (kind_at s q) ≡ true → step st Blank ≡ st → scan st (drop q s) ≡ scan st (drop (q + 1) s)
-scan-blank s q st e h =
-    scan-byte s q st (blank-inside s q e) ∙ ap (λ (x : State). scan x (drop (q + 1) s)) (ap (λ (k : Kind). step st k) (blank-is (kind_at s q) e) ∙ h)
-
 -- two states that go on alike from here
 pub same-scan : (s : List ℕ) (q : ℕ) (st st' : State) → step st (kind_at s q) ≡ step st' (kind_at s q) → finish st ≡ finish st' → scan st (drop q s) ≡ scan st' (drop q s)
 same-scan s q st st' e f =

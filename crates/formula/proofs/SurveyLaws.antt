@@ -1,9 +1,9 @@
 -- One pass along the text: a glance goes with its state, and decides whether the text is read.
 -- Assumes nothing.
 use mathlib.Core.Path.{◌≡◌, refl, sym, ap, ◌∙◌, subst}
-use mathlib.Core.Bool.{Bool, true, false}
+use mathlib.Core.Bool.{Bool, true, false, ◌||◌}
 use mathlib.Core.List.{List}
-use mathlib.Core.Logic.{⊎_elim, ◌⊎◌, inl, inr}
+use mathlib.Core.Logic.{⊎_elim}
 use Prim.Native.Nat.{ℕ, suc, ◌+◌, ◌-◌, ◌*◌, ◌≤◌, ◌<◌}
 use native.Mathlib.Numerals.{add-one}
 use native.Mathlib.Omega.{arith}
@@ -14,9 +14,12 @@ use Rattle.numbers.specs.Words.{choose}
 use Rattle.numbers.proofs.WordsLaws.{lt-or-ge}
 use Rattle.formula.specs.Formula.{plus, minus, number, plain, raised, Sum, Reading, unreadable}
 use Rattle.formula.specs.internal.Scan.{kind_at, fresh, up_to, joined, Stack, bottom, within, close_term, close_sum, State, lead, operand, in_number, after, caret, in_power, done, dead, closed, ended, step, finish, scan}
-use Rattle.formula.specs.internal.Survey.{at, failed, capped, height, glance, whole, glance_next, is_read}
+use Rattle.formula.specs.internal.Survey.{by_mode, at, failed, capped, height, glance, whole, begins, glance_next, is_read}
 use Rattle.formula.specs.declared.Kind.{Kind}
 use Rattle.formula.specs.declared.Kind.TheVariants.{Blank, Digit, LetterX, LetterY, Plus, Minus, Star, Caret, Open, Close, Other}
+use Rattle.formula.specs.declared.survey.Mode.{Mode}
+use Rattle.formula.specs.declared.survey.Mode.TheVariants as mode
+use Rattle.formula.specs.declared.survey.Mode.TheVariants.{Begin, Want, Number, After, Power, Done, Stuck}
 use Rattle.formula.specs.declared.survey.Glance.{Glance}
 use Rattle.formula.proofs.PlaceLaws.{scan-byte, scan-end, is-inside, kind-inside}
 use Rattle.formula.proofs.SoundLaws.{Is, kind-is}
@@ -46,11 +49,11 @@ capped_small v =
     (lt-or-ge v 256)
 
 -- a bracket closes
-close-glance : (s : Sum) (κ : Stack) → glance (closed s κ) ≡ choose (ltb 0 (height κ)) (at 3 0 0 (height κ - 1)) failed
+close-glance : (s : Sum) (κ : Stack) → glance (closed s κ) ≡ choose (ltb 0 (height κ)) (at After 0 0 (height κ - 1)) failed
 unfolding glance height
 close-glance s bottom = refl
 close-glance s (within u c κ) =
-    sym (chosen (ltb 0 (suc (height κ))) (at 3 0 0 (suc (height κ) - 1)) failed (lt-ltb 0 (suc (height κ)) (omega arith)) ∙ ap (λ (x : ℕ). at 3 0 0 x) (let e : suc (height κ) - 1 ≡ height κ = omega arith in e))
+    sym (chosen (ltb 0 (suc (height κ))) (at After 0 0 (suc (height κ) - 1)) failed (lt-ltb 0 (suc (height κ)) (omega arith)) ∙ ap (λ (x : ℕ). at After 0 0 x) (let e : suc (height κ) - 1 ≡ height κ = omega arith in e))
 
 digits-glance : (b : Bool) (st : State) → glance (choose b st dead) ≡ choose b (glance st) failed
 unfolding glance
@@ -63,7 +66,7 @@ both-failed false = refl
 
 -- the glance goes with its state
 pub glance-step : (st : State) (k : Kind) → glance (step st k) ≡ glance_next (glance st) k
-unfolding glance step glance_next height
+unfolding glance step height
 glance-step (lead κ) Blank = refl
 glance-step (lead κ) (Digit d) = refl
 glance-step (lead κ) LetterX = refl
@@ -72,7 +75,7 @@ glance-step (lead κ) Plus = refl
 glance-step (lead κ) Minus = refl
 glance-step (lead κ) Star = refl
 glance-step (lead κ) Caret = refl
-glance-step (lead κ) Open = ap (λ (x : ℕ). at 0 0 0 x) (sym (add-one (height κ)))
+glance-step (lead κ) Open = ap (λ (x : ℕ). at Begin 0 0 x) (sym (add-one (height κ)))
 glance-step (lead κ) Close = refl
 glance-step (lead κ) Other = refl
 glance-step (operand u c κ) Blank = refl
@@ -83,11 +86,11 @@ glance-step (operand u c κ) Plus = refl
 glance-step (operand u c κ) Minus = refl
 glance-step (operand u c κ) Star = refl
 glance-step (operand u c κ) Caret = refl
-glance-step (operand u c κ) Open = ap (λ (x : ℕ). at 0 0 0 x) (sym (add-one (height κ)))
+glance-step (operand u c κ) Open = ap (λ (x : ℕ). at Begin 0 0 x) (sym (add-one (height κ)))
 glance-step (operand u c κ) Close = refl
 glance-step (operand u c κ) Other = refl
 glance-step (in_number j v u c κ) Blank = refl
-glance-step (in_number j v u c κ) (Digit d) = digits-glance (ltb j 9) (in_number (suc j) (v * 10 + d) u c κ) ∙ ap (λ (x : ℕ). choose (ltb j 9) (at 2 x 0 (height κ)) failed) (sym (add-one j))
+glance-step (in_number j v u c κ) (Digit d) = digits-glance (ltb j 9) (in_number (suc j) (v * 10 + d) u c κ) ∙ ap (λ (x : ℕ). choose (ltb j 9) (at Number x 0 (height κ)) failed) (sym (add-one j))
 glance-step (in_number j v u c κ) LetterX = refl
 glance-step (in_number j v u c κ) LetterY = refl
 glance-step (in_number j v u c κ) Plus = refl
@@ -119,16 +122,16 @@ glance-step (caret e u c κ) Caret = refl
 glance-step (caret e u c κ) Open = refl
 glance-step (caret e u c κ) Close = refl
 glance-step (caret e u c κ) Other = refl
-glance-step (in_power j v e u c κ) Blank = digits-glance (leb v 255) (done (close_term u (raised e v)) c κ) ∙ ap (λ (b : Bool). choose b (at 6 0 0 (height κ)) failed) (sym (capped_small v))
-glance-step (in_power j v e u c κ) (Digit d) = digits-glance (ltb j 9) (in_power (suc j) (v * 10 + d) e u c κ) ∙ ap (λ (x : ℕ). choose (ltb j 9) (at 5 x (capped (v * 10 + d)) (height κ)) failed) (sym (add-one j)) ∙ ap (λ (x : ℕ). choose (ltb j 9) (at 5 (j + 1) x (height κ)) failed) (capped-next v d)
+glance-step (in_power j v e u c κ) Blank = digits-glance (leb v 255) (done (close_term u (raised e v)) c κ) ∙ ap (λ (b : Bool). choose b (at Done 0 0 (height κ)) failed) (sym (capped_small v))
+glance-step (in_power j v e u c κ) (Digit d) = digits-glance (ltb j 9) (in_power (suc j) (v * 10 + d) e u c κ) ∙ ap (λ (x : ℕ). choose (ltb j 9) (at Power x (capped (v * 10 + d)) (height κ)) failed) (sym (add-one j)) ∙ ap (λ (x : ℕ). choose (ltb j 9) (at Power (j + 1) x (height κ)) failed) (capped-next v d)
 glance-step (in_power j v e u c κ) LetterX = digits-glance (leb v 255) dead ∙ both-failed (leb v 255)
 glance-step (in_power j v e u c κ) LetterY = digits-glance (leb v 255) dead ∙ both-failed (leb v 255)
-glance-step (in_power j v e u c κ) Plus = digits-glance (leb v 255) (operand fresh (joined (close_sum c (close_term u (raised e v))) plus) κ) ∙ ap (λ (b : Bool). choose b (at 1 0 0 (height κ)) failed) (sym (capped_small v))
-glance-step (in_power j v e u c κ) Minus = digits-glance (leb v 255) (operand fresh (joined (close_sum c (close_term u (raised e v))) minus) κ) ∙ ap (λ (b : Bool). choose b (at 1 0 0 (height κ)) failed) (sym (capped_small v))
-glance-step (in_power j v e u c κ) Star = digits-glance (leb v 255) (operand (up_to (close_term u (raised e v))) c κ) ∙ ap (λ (b : Bool). choose b (at 1 0 0 (height κ)) failed) (sym (capped_small v))
+glance-step (in_power j v e u c κ) Plus = digits-glance (leb v 255) (operand fresh (joined (close_sum c (close_term u (raised e v))) plus) κ) ∙ ap (λ (b : Bool). choose b (at Want 0 0 (height κ)) failed) (sym (capped_small v))
+glance-step (in_power j v e u c κ) Minus = digits-glance (leb v 255) (operand fresh (joined (close_sum c (close_term u (raised e v))) minus) κ) ∙ ap (λ (b : Bool). choose b (at Want 0 0 (height κ)) failed) (sym (capped_small v))
+glance-step (in_power j v e u c κ) Star = digits-glance (leb v 255) (operand (up_to (close_term u (raised e v))) c κ) ∙ ap (λ (b : Bool). choose b (at Want 0 0 (height κ)) failed) (sym (capped_small v))
 glance-step (in_power j v e u c κ) Caret = digits-glance (leb v 255) dead ∙ both-failed (leb v 255)
 glance-step (in_power j v e u c κ) Open = digits-glance (leb v 255) dead ∙ both-failed (leb v 255)
-glance-step (in_power j v e u c κ) Close = digits-glance (leb v 255) (closed (close_sum c (close_term u (raised e v))) κ) ∙ ap (λ (x : Glance). choose (leb v 255) x failed) (close-glance (close_sum c (close_term u (raised e v))) κ) ∙ ap (λ (b : Bool). choose b (choose (ltb 0 (height κ)) (at 3 0 0 (height κ - 1)) failed) failed) (sym (capped_small v))
+glance-step (in_power j v e u c κ) Close = digits-glance (leb v 255) (closed (close_sum c (close_term u (raised e v))) κ) ∙ ap (λ (x : Glance). choose (leb v 255) x failed) (close-glance (close_sum c (close_term u (raised e v))) κ) ∙ ap (λ (b : Bool). choose b (choose (ltb 0 (height κ)) (at After 0 0 (height κ - 1)) failed) failed) (sym (capped_small v))
 glance-step (in_power j v e u c κ) Other = digits-glance (leb v 255) dead ∙ both-failed (leb v 255)
 glance-step (done t c κ) Blank = refl
 glance-step (done t c κ) (Digit d) = refl
@@ -158,21 +161,31 @@ pick-depth : (b : Bool) (x y : Glance) (m : ℕ) → x.depth ≤ m → y.depth �
 pick-depth true x y m h l = h
 pick-depth false x y m h l = l
 
+pick-mode : (q : Mode) (b w n a c p d s : Glance) (m : ℕ) → b.depth ≤ m → w.depth ≤ m → n.depth ≤ m → a.depth ≤ m → c.depth ≤ m → p.depth ≤ m → d.depth ≤ m → s.depth ≤ m
+    → (by_mode q b w n a c p d s).depth ≤ m
+pick-mode Begin b w n a c p d s m hb hw hn ha hc hp hd hs = hb
+pick-mode Want b w n a c p d s m hb hw hn ha hc hp hd hs = hw
+pick-mode Number b w n a c p d s m hb hw hn ha hc hp hd hs = hn
+pick-mode After b w n a c p d s m hb hw hn ha hc hp hd hs = ha
+pick-mode mode.Caret b w n a c p d s m hb hw hn ha hc hp hd hs = hc
+pick-mode Power b w n a c p d s m hb hw hn ha hc hp hd hs = hp
+pick-mode Done b w n a c p d s m hb hw hn ha hc hp hd hs = hd
+pick-mode Stuck b w n a c p d s m hb hw hn ha hc hp hd hs = hs
+
 pub next-depth : (g : Glance) (k : Kind) → (glance_next g k).depth ≤ g.depth + 1
-unfolding glance_next
-next-depth g Blank = pick-depth (eqb g.mode 2) _ _ _ (omega arith) (pick-depth (eqb g.mode 5) _ _ _ (pick-depth (leb g.value 255) _ _ _ (omega arith) (omega arith)) (omega arith))
+next-depth g Blank =
+    pick-mode g.mode _ _ _ _ _ _ _ _ _ (omega arith) (omega arith) (omega arith) (omega arith) (omega arith)
+    (pick-depth (leb g.value 255) _ _ _ (omega arith) (omega arith)) (omega arith) (omega arith)
 next-depth g (Digit d) =
-    pick-depth (leb g.mode 1) _ _ _ (omega arith) (
-    pick-depth (eqb g.mode 2) _ _ _ (pick-depth (ltb g.digits 9) _ _ _ (omega arith) (omega arith)) (
-    pick-depth (eqb g.mode 4) _ _ _ (omega arith) (
-    pick-depth (eqb g.mode 5) _ _ _ (pick-depth (ltb g.digits 9) _ _ _ (omega arith) (omega arith)) (omega arith))))
-next-depth g LetterX = pick-depth (leb g.mode 1) _ _ _ (omega arith) (omega arith)
-next-depth g LetterY = pick-depth (leb g.mode 1) _ _ _ (omega arith) (omega arith)
-next-depth g Plus = pick-depth (eqb g.mode 0) _ _ _ (omega arith) (pick-depth (whole g) _ _ _ (omega arith) (omega arith))
-next-depth g Minus = pick-depth (eqb g.mode 0) _ _ _ (omega arith) (pick-depth (whole g) _ _ _ (omega arith) (omega arith))
+    pick-mode g.mode _ _ _ _ _ _ _ _ _ (omega arith) (omega arith) (pick-depth (ltb g.digits 9) _ _ _ (omega arith) (omega arith)) (omega arith) (omega arith)
+    (pick-depth (ltb g.digits 9) _ _ _ (omega arith) (omega arith)) (omega arith) (omega arith)
+next-depth g LetterX = pick-mode g.mode _ _ _ _ _ _ _ _ _ (omega arith) (omega arith) (omega arith) (omega arith) (omega arith) (omega arith) (omega arith) (omega arith)
+next-depth g LetterY = pick-mode g.mode _ _ _ _ _ _ _ _ _ (omega arith) (omega arith) (omega arith) (omega arith) (omega arith) (omega arith) (omega arith) (omega arith)
+next-depth g Plus = pick-depth (begins g || whole g) _ _ _ (omega arith) (omega arith)
+next-depth g Minus = pick-depth (begins g || whole g) _ _ _ (omega arith) (omega arith)
 next-depth g Star = pick-depth (whole g) _ _ _ (omega arith) (omega arith)
-next-depth g Caret = pick-depth (eqb g.mode 2) _ _ _ (omega arith) (pick-depth (eqb g.mode 3) _ _ _ (omega arith) (omega arith))
-next-depth g Open = pick-depth (leb g.mode 1) _ _ _ (omega arith) (omega arith)
+next-depth g Caret = pick-mode g.mode _ _ _ _ _ _ _ _ _ (omega arith) (omega arith) (omega arith) (omega arith) (omega arith) (omega arith) (omega arith) (omega arith)
+next-depth g Open = pick-mode g.mode _ _ _ _ _ _ _ _ _ (omega arith) (omega arith) (omega arith) (omega arith) (omega arith) (omega arith) (omega arith) (omega arith)
 next-depth g Close = pick-depth (whole g) _ _ _ (pick-depth (ltb 0 g.depth) _ _ _ (omega arith) (omega arith)) (omega arith)
 next-depth g Other = omega arith
 
@@ -219,7 +232,7 @@ pub record Surveyed (text : List ℕ) (i : ℕ) (g : Glance) : Type 0 where
   pub goes : scan (lead bottom) text ≡ scan st (drop i text)
   pub shallow : g.depth ≤ i
 
-pub survey-none : (text : List ℕ) (g : Glance) → g ≡ at 0 0 0 0 → Surveyed text 0 g
+pub survey-none : (text : List ℕ) (g : Glance) → g ≡ at Begin 0 0 0 → Surveyed text 0 g
 unfolding glance height
 survey-none text g e = record { st = lead bottom; is = e; goes = refl; shallow = (let z = ap (λ (x : Glance). x.depth) e in omega arith) }
 
@@ -243,22 +256,3 @@ kind-nine s q d k =
     let l = is-inside s q (λ z. (let o : Digit d ≡ Other = sym k ∙ z in let y : ◌≡◌ {A = ℕ} 0 1 = cc in omega arith)) in
     let i = subst (λ (z : Kind). Is z (get_or s q 0)) (sym (kind-inside s q l) ∙ k) (kind-is (get_or s q 0)) in
     omega (arith, i.1, i.2)
-
--- where a number or a power may end, by the state's number
-pub whole-element : (m v : ℕ) → 2 ≤ m → m < 4 → true ≡ whole (at m 0 v 0)
-whole-element m v l h = ⊎_elim (λ (e : m ≡ 2). sym (ap (λ (x : ℕ). whole (at x 0 v 0)) e)) (λ (e : m ≡ 3). sym (ap (λ (x : ℕ). whole (at x 0 v 0)) e)) either
-  where
-    either : (m ≡ 2) ⊎ (m ≡ 3)
-    either = ⊎_elim (λ (a : m < 3). inl (omega arith)) (λ (a : 3 ≤ m). inr (omega arith)) (lt-or-ge m 3)
-
-pub whole-done : (m v : ℕ) → m ≡ 6 → true ≡ whole (at m 0 v 0)
-whole-done m v e = sym (ap (λ (x : ℕ). whole (at x 0 v 0)) e)
-
-pub whole-power : (m v : ℕ) → m ≡ 5 → leb v 255 ≡ whole (at m 0 v 0)
-whole-power m v e = sym (ap (λ (x : ℕ). whole (at x 0 v 0)) e)
-
-pub whole-none : (m v : ℕ) → ((2 ≤ m) × (m < 4) → ⊥) → (m ≡ 6 → ⊥) → (m ≡ 5 → ⊥) → false ≡ whole (at m 0 v 0)
-whole-none m v a b c =
-    let two = ne_eqb m 2 (λ e. a (omega arith, omega arith)) in
-    let three = ne_eqb m 3 (λ e. a (omega arith, omega arith)) in
-    sym (simp (two, three, ne_eqb m 6 b, ne_eqb m 5 c))

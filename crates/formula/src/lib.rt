@@ -2,11 +2,13 @@
 #![tactic(auto)]
 
 ghost use Rattle.std.specs.Prelude.{◌≡◌};
+ghost use Rattle.numbers.specs.Refusals.{verdict};
 ghost use Rattle.formula.specs.internal.Scan.{kind_of, kind_at};
 ghost use Rattle.formula.specs.internal.Survey.{survey_at};
 
 use crate::bytes::{BLANK, CARET, CLOSE, LETTER_X, LETTER_Y, MINUS, NINE, OPEN, PLUS, STAR, ZERO};
 use crate::limits::{DEEPEST_BRACKETS, LONGEST_TEXT};
+use numbers::refusal::Refusal;
 
 pub mod bytes; // by name
 pub mod limits; // how long a text is, how large a power, how deep the brackets
@@ -52,37 +54,24 @@ pub fn kind_at(text: &[u8], at: usize) -> Kind
     ensures { result ≡ kind_at text.now at }
 {
     if at < text.len() {
-        return kind_of(text[at]);
+        kind_of(text[at])
+    } else {
+        Kind::Other
     }
-    Kind::Other
 }
 
-// Whether a text can be read, and its brackets are not too deep.
-#[derive(Clone, Copy)]
-pub enum Surveyed {
-    Unreadable,
-    Deep,
-    Fine,
-}
-
-// The text from a place on.
-pub fn survey_at(text: &[u8], at: usize) -> Surveyed
-    ensures { result ≡ survey_at text.now at }
+// Whether a text can be read from a place on, and its brackets are not too deep.
+pub fn survey_at(text: &[u8], at: usize) -> Result<(), Refusal>
+    ensures { verdict result ≡ survey_at text.now at }
 {
     if text.len() < at {
-        return Surveyed::Unreadable;
+        return Err(Refusal::Unreadable);
     }
     let rest = &text[at..];
     let too_long = LONGEST_TEXT < rest.len();
-    if too_long {
-        return Surveyed::Unreadable;
+    if too_long || !survey::readable(rest) {
+        return Err(Refusal::Unreadable);
     }
-    if survey::readable(rest) {
-        let too_deep = DEEPEST_BRACKETS < survey::brackets(rest);
-        if too_deep {
-            return Surveyed::Deep;
-        }
-        return Surveyed::Fine;
-    }
-    Surveyed::Unreadable
+    let too_deep = DEEPEST_BRACKETS < survey::brackets(rest);
+    if too_deep { Err(Refusal::Deep) } else { Ok(()) }
 }

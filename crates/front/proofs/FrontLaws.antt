@@ -3,8 +3,6 @@
 --   rows-room, rows-some         the factors' rows are few enough for the scratch, and some
 --   shape-placed                 every place of a sheet of the right shape is there
 --   read_fits, fits_read         the header as it was read fits exactly where it does
---   read-powers, read_below, ..  what is decided of the header as it was read is decided of the sheet
---   rows_fit                     the bounds that the polynomial's rows keep
 --   lengths-not, lengths-decide  what is found of the lengths and the rows as they are lent is found of the sheet's
 --   front-set                    what stands before the factors' rows fits still where a known entry that is not at X = 0 is another number below p
 -- Assumes nothing.
@@ -24,8 +22,7 @@ use Rattle.algebra.specs.Sums.{sum_to}
 use Rattle.algebra.proofs.SumsLaws.{sum_to-ext}
 use Rattle.numbers.specs.Words.{word, outside, part, least}
 use Rattle.numbers.specs.internal.Facts.{Decides}
-use Rattle.numbers.specs.Refusals.{check, judge, modulus_checks}
-use Rattle.numbers.specs.declared.refusal.Verdict.TheVariants.{Pass}
+use Rattle.numbers.specs.Refusals.{check, judge, modulus_checks, Pass}
 use Rattle.numbers.proofs.WordsLaws.{true-false, word-part, least-ext}
 use Rattle.numbers.proofs.TestsLaws.{decides_eq}
 use Rattle.numbers.proofs.RefusalsLaws.{pass-check, neither, modulus-pass, modulus-fine}
@@ -35,9 +32,9 @@ use Rattle.series.proofs.KnownLaws.{rows-known-test, rows-known-ext}
 use Rattle.layout.specs.declared.Header.{Header}
 use Rattle.layout.specs.Layout.{rows_at, modulus, degree, width, terms, count, reach, known, lengths_from, roots_from, polynomial_from, root, power, end, polynomial, entry_at}
 use Rattle.layout.specs.internal.Places.{HeaderIs, Placed}
-use Rattle.layout.proofs.PlacesLaws.{lower-within, entry-within, lower_long, lower_word, header-polynomial, header-size}
+use Rattle.layout.proofs.PlacesLaws.{lower-within, entry-within, lower_word}
 use Rattle.layout.proofs.RegionsLaws.{entry-by, entry_read}
-use Rattle.front.specs.internal.Front.{OneTo, HeaderFits, PowersFit, Shape, RootsBelow, RootsRise, RowsBelow, top_from, LengthsFit, Front}
+use Rattle.front.specs.internal.Front.{OneTo, HeaderFits, Shape, top_from, LengthsFit, Front}
 
 pub modulus-small : (p : ℕ) → judge (modulus_checks p) ≡ Pass → p ≤ largest_modulus
 modulus-small p e =
@@ -103,60 +100,10 @@ module _ (s : List ℕ) (h : Header) (e : HeaderIs s h) where
     roomy = omega arith;
   }
 
-  -- what is decided of it is decided of the sheet
-  module _ (b : Bool) where
-    pub read-powers : Decides b (PowersFit s h.count h.degree) → Decides b (PowersFit s (count s) (degree s))
-    read-powers d = rw (← e.count-is, ← e.degree-is) d
-
-    pub read_below : Decides b (RootsBelow s h.count h.p) → Decides b (RootsBelow s (count s) (modulus s))
-    read_below d = rw (← e.count-is, ← e.p-is) d
-
-    pub read-rise : Decides b (RootsRise s h.count) → Decides b (RootsRise s (count s))
-    read-rise d = rw (← e.count-is) d
-
-  -- where the polynomial begins, and its top row
-  module _ (from : ℕ) (q : from ≡ polynomial_from h.degree h.count) where
-    begins : from ≡ polynomial_from (degree s) (count s)
-    begins = q ∙ header-polynomial s h e
-
-    pub read-reduced : (b : Bool) → Decides b (RowsBelow h.p s from h.width (h.degree + 1) 0 h.width)
-        → Decides b (RowsBelow (modulus s) s (polynomial_from (degree s) (count s)) (width s) (degree s + 1) 0 (width s))
-    read-reduced b d = rw (← begins, ← e.p-is, ← e.width_is, ← e.degree-is) d
-
-    pub top-begins : from + h.degree * h.width ≡ top_from s
-    top-begins = ap₂ (λ (x y : ℕ). x + y) begins (header-size s h e)
-
-    pub read-later : (b : Bool) → Decides b (RowsBelow 1 s (from + h.degree * h.width) h.width 1 1 h.width) → Decides b (RowsBelow 1 s (top_from s) (width s) 1 1 (width s))
-    read-later b d = rw (← top-begins, ← e.width_is) d
-
-    -- and the bounds that its rows keep
-    pub record RowsFit : Type 0 where
-      pub small : h.degree * h.width ≤ 8192
-      pub from_low : from ≤ 107
-      pub whole : from + (h.degree + 1) * h.width ≤ length s
-      pub width_low : 1 ≤ h.width
-      pub width-high : h.width ≤ largest_width
-      pub degree-high : h.degree ≤ largest_degree
-
-    pub rows_fit : Shape s → RowsFit
-    rows_fit g =
-        let f = g.header in let l = g.offsets.long in let z = header-size s h e in let y = begins in
-        record {
-          small = omega (arith, rows-room s f);
-          from_low = omega arith;
-          whole = let w : (h.degree + 1) * h.width ≡ (degree s + 1) * width s = rw (e.degree-is, e.width_is) refl in omega arith;
-          width_low = omega arith;
-          width-high = omega arith;
-          degree-high = omega arith;
-        }
-
   -- the known lengths and the lower rows as they are lent
   module _ (g : Shape s) (lengths rows : List ℕ) (l : lengths ≡ part s lengths_from (degree s)) (r : rows ≡ part s (polynomial_from (degree s) (count s)) (degree s * width s)) where
     pub lengths-long : length lengths ≡ degree s
     lengths-long = ap length l ∙ length-take-le (degree s) (drop lengths_from s) (let z = g.header.roomy in omega (arith, length-drop lengths_from s))
-
-    pub rows_long : length rows ≡ degree s * width s
-    rows_long = lower_long s (shape-placed s g) rows r
 
     length-is : (j : ℕ) → j < degree s → word lengths j ≡ known s j
     length-is j u = ap (λ x. word x j) l ∙ word-part s lengths_from (degree s) j u

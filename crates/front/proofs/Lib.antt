@@ -1,1 +1,2 @@
+pub mod EachLaws
 pub mod FrontLaws

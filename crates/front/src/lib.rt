@@ -15,16 +15,12 @@ use layout::{
 };
 use numbers::judge::check_modulus;
 use numbers::limits::{LARGEST_DEGREE, LARGEST_WIDTH};
-use numbers::refusal::Verdict;
 
 // Whether n is from 1 to high.
 fn one_to(high: usize, n: usize) -> bool
     ensures { Decides result (OneTo high n) }
 {
-    if n < 1 {
-        return false;
-    }
-    n <= high
+    1 <= n && n <= high
 }
 
 // Words 0 to 4 and 10, and room for the lengths, the roots and the powers.
@@ -35,7 +31,7 @@ fn header_fits(s: &[u32]) -> bool
         return false;
     }
     let h = read_header(s);
-    if let Verdict::Refuse(_) = check_modulus(h.p) {
+    if check_modulus(h.p).is_err() {
         return false;
     }
     if !one_to(LARGEST_DEGREE as usize, h.degree) {
@@ -62,14 +58,12 @@ fn powers_fit(s: &[u32], r: usize, d: usize) -> bool
     ensures { Decides result (PowersFit s.now r d) }
 {
     let mut left = d;
-    let mut i = 0;
-    while i < r {
+    for i in 0..r {
         let m = power_at(s, i) as usize;
         if !one_to(left, m) {
             return false;
         }
         left -= m;
-        i += 1;
     }
     left == 0
 }
@@ -81,23 +75,13 @@ fn offsets_fit(s: &[u32]) -> bool
 {
     let h = read_header(s);
     let o = read_offsets(s);
-    if o.roots != roots_from(h.degree) {
-        return false;
-    }
-    if o.polynomial != polynomial_from(h.degree, h.count) {
-        return false;
-    }
-    if o.factors != factors_from(h.degree, h.width, h.count) {
-        return false;
-    }
     let end = total_of(h.degree, h.width, h.count);
-    if o.rest != end {
-        return false;
-    }
-    if o.end != end {
-        return false;
-    }
-    end <= s.len()
+    o.roots == roots_from(h.degree)
+        && o.polynomial == polynomial_from(h.degree, h.count)
+        && o.factors == factors_from(h.degree, h.width, h.count)
+        && o.rest == end
+        && o.end == end
+        && end <= s.len()
 }
 
 // What is to be known before a word past the powers is read.
@@ -108,38 +92,21 @@ fn shape_fits(s: &[u32]) -> bool
         return false;
     }
     let h = read_header(s);
-    if !powers_fit(s, h.count, h.degree) {
-        return false;
-    }
-    offsets_fit(s)
+    powers_fit(s, h.count, h.degree) && offsets_fit(s)
 }
 
 fn roots_below(s: &[u32], r: usize, p: u32) -> bool
     requires { (r ≤ largest_degree) × (degree s.now ≤ largest_degree) × (polynomial_from (degree s.now) r ≤ length s.now) }
     ensures { Decides result (RootsBelow s.now r p) }
 {
-    let mut i = 0;
-    while i < r {
-        if p <= root_at(s, i) {
-            return false;
-        }
-        i += 1;
-    }
-    true
+    (0..r).all(|i| root_at(s, i) < p)
 }
 
 fn roots_rise(s: &[u32], r: usize) -> bool
     requires { (r ≤ largest_degree) × (degree s.now ≤ largest_degree) × (polynomial_from (degree s.now) r ≤ length s.now) }
     ensures { Decides result (RootsRise s.now r) }
 {
-    let mut i = 0;
-    while i + 1 < r {
-        if root_at(s, i + 1) <= root_at(s, i) {
-            return false;
-        }
-        i += 1;
-    }
-    true
+    (1..r).all(|i| root_at(s, i - 1) < root_at(s, i))
 }
 
 // Columns from..to − 1 of the rows from word o on are below q. (Below 1 is 0.)
@@ -158,14 +125,10 @@ fn polynomial_fits(s: &[u32]) -> bool
     let h = read_header(s);
     let n = h.width;
     let from = polynomial_from(h.degree, h.count);
-    if !rows_below(h.p, s, from, n, h.degree + 1, 0, n) {
-        return false;
-    }
     let top = from + h.degree * n;
-    if s[top] != 1 {
-        return false;
-    }
-    rows_below(1, s, top, n, 1, 1, n)
+    rows_below(h.p, s, from, n, h.degree + 1, 0, n)
+        && s[top] == 1
+        && rows_below(1, s, top, n, 1, 1, n)
 }
 
 // The known lengths with the rows, and their least.
@@ -175,10 +138,8 @@ fn lengths_fit(s: &[u32]) -> bool
 {
     let h = read_header(s);
     let lengths = layout::lengths_part(s);
-    if !rows_known(h.width, layout::lower_part(s), lengths) {
-        return false;
-    }
-    least_length(h.width as u32, lengths) as usize == h.reach
+    rows_known(h.width, layout::lower_part(s), lengths)
+        && least_length(h.width as u32, lengths) as usize == h.reach
 }
 
 // All that stands before the factors' rows.
@@ -189,25 +150,16 @@ pub fn front_fits(s: &[u32]) -> bool
         return false;
     }
     let h = read_header(s);
-    if !roots_below(s, h.count, h.p) {
-        return false;
-    }
-    if !roots_rise(s, h.count) {
-        return false;
-    }
-    if !polynomial_fits(s) {
-        return false;
-    }
-    lengths_fit(s)
+    roots_below(s, h.count, h.p) && roots_rise(s, h.count) && polynomial_fits(s) && lengths_fit(s)
 }
 
-// The words of the factors' rows where all that stands before them fits, and else 0.
-pub fn rows_size(s: &[u32]) -> usize
+// How many words the factors' rows have, where all that stands before them fits.
+pub fn rows_size(s: &[u32]) -> Option<usize>
     ensures { RowsSize s.now result }
 {
     if !front_fits(s) {
-        return 0;
+        return None;
     }
     let h = read_header(s);
-    h.degree * h.width
+    Some(h.degree * h.width)
 }

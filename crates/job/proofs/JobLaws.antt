@@ -17,9 +17,7 @@ use lib.Dec.{ltb, eqb}
 use lib.ListN.{length}
 use borrow.Author.Tests.{lt-ltb, le-ltb, ltb-false, eqb-true, eq-eqb, ne_eqb, not-false}
 use Rattle.numbers.specs.Words.{word, choose, outside}
-use Rattle.numbers.specs.Refusals.{check, judge, refusal, modulus_checks}
-use Rattle.numbers.specs.declared.refusal.Refusal.{Refusal}
-use Rattle.numbers.specs.declared.refusal.Verdict.TheVariants.{Pass, Refuse}
+use Rattle.numbers.specs.Refusals.{check, judge, refusal, modulus_checks, Row, Pass, Refuse}
 use Rattle.numbers.proofs.RefusalsLaws.{take-check, skip-check, after-pass, after-refuse, pass-check, pass-parts, neither, inside}
 use Rattle.numbers.proofs.WordsLaws.{Writing, over-whole, length-tabulate}
 use Rattle.job.specs.declared.Form.{Form}
@@ -107,7 +105,7 @@ job-short b h = take-check (check 5 (ltb (length b) (place b head_fields)) 0) _ 
 pub past_head : (b : List ℕ) → place b head_fields ≤ length b → judge (job_checks b) ≡ judge (modulus_checks (job_modulus b) ++ size_checks b)
 past_head b h = skip-check (check 5 (ltb (length b) (place b head_fields)) 0) (modulus_checks (job_modulus b) ++ size_checks b) (le-ltb (length b) (place b head_fields) h)
 
-pub job-refused : (b : List ℕ) (r : Refusal) → place b head_fields ≤ length b → judge (modulus_checks (job_modulus b)) ≡ Refuse r → judge (job_checks b) ≡ Refuse r
+pub job-refused : (b : List ℕ) (r : Row) → place b head_fields ≤ length b → judge (modulus_checks (job_modulus b)) ≡ Refuse r → judge (job_checks b) ≡ Refuse r
 job-refused b r h e = past_head b h ∙ after-refuse (modulus_checks (job_modulus b)) (size_checks b) r e
 
 pub job-sizes : (b : List ℕ) → place b head_fields ≤ length b → judge (modulus_checks (job_modulus b)) ≡ Pass → judge (job_checks b) ≡ judge (size_checks b)

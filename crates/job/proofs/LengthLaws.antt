@@ -13,8 +13,7 @@ use lib.ListN.{length, take}
 use lib.Seq.{get_or-take, length-take-le}
 use borrow.Author.Tests.{ltb-false, ne_eqb}
 use Rattle.numbers.specs.Words.{word, choose, outside}
-use Rattle.numbers.specs.Refusals.{Check, check, judge, modulus_checks}
-use Rattle.numbers.specs.declared.refusal.Verdict.TheVariants.{Pass}
+use Rattle.numbers.specs.Refusals.{Check, check, judge, modulus_checks, Pass}
 use Rattle.numbers.proofs.RefusalsLaws.{after_same, pass-check, pass-parts, inside}
 use Rattle.numbers.proofs.WordsLaws.{true-false}
 use Rattle.job.specs.Limits.{most_degree, most_width, head_fields}

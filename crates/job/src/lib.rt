@@ -3,33 +3,25 @@
 #![tactic(auto)]
 
 ghost use Rattle.std.specs.Prelude.{◌≡◌, ◌||◌, ◌+◌, ◌*◌, ◌≤◌, ◌<◌, ltb, length};
-ghost use Rattle.numbers.specs.Refusals.{judge};
+ghost use Rattle.numbers.specs.Refusals.{judge, verdict};
 ghost use Rattle.job.specs.Limits.{most_degree, most_width, head_fields};
 ghost use Rattle.job.specs.Job.{number, place, field, fields, job_count, misplaced, size_checks, job_checks};
 ghost use Rattle.job.specs.internal.Form.{FormIs, most_fields};
 
 use crate::limits::{HEAD_FIELDS, MOST_DEGREE, MOST_WIDTH};
 use numbers::judge::{check_modulus, outside};
-use numbers::refusal::{Verdict, refuse};
+use numbers::refusal::Refusal;
 
 pub mod limits; // how large a job is
-
-fn word_of(byte: u8) -> u32
-    ensures { (result ≡ byte) × (result < 256) }
-{
-    byte as u32
-}
 
 // The number that `size` bytes hold from byte `at` on, the low byte first: so it is read from the last one down.
 fn number(job: &[u8], at: usize, size: usize) -> u32
     requires { (at + size ≤ length job.now) × (size ≤ 4) }
     ensures { result ≡ number job.now at size }
 {
-    let mut value: u32 = 0;
-    let mut left = size;
-    while 0 < left {
-        left -= 1;
-        value = word_of(job[at + left]) + 256 * value;
+    let mut value = 0;
+    for i in (0..size).rev() {
+        value = u32::from(job[at + i]) + 256 * value;
     }
     value
 }
@@ -57,9 +49,10 @@ pub fn form_of(job: &[u8]) -> Form
     ensures { FormIs job.now result }
 {
     if number(job, 0, 2) == 0 {
-        return Form { first: 2, size: 4 };
+        Form { first: 2, size: 4 }
+    } else {
+        Form { first: 0, size: 2 }
     }
-    Form { first: 0, size: 2 }
 }
 
 // Field i.
@@ -67,8 +60,7 @@ pub fn field(job: &[u8], form: Form, i: usize) -> u32
     requires { FormIs job.now form × (i < most_fields) × (place job.now (i + 1) ≤ length job.now) }
     ensures { result ≡ field job.now i }
 {
-    let size = form.size;
-    number(job, form.place(i), size)
+    number(job, form.place(i), form.size)
 }
 
 // As many fields as `out` takes, from field `from` on.
@@ -76,10 +68,8 @@ pub fn load(job: &[u8], form: Form, from: usize, out: &mut [u32])
     requires { FormIs job.now form × (from + length out.old ≤ most_fields) × (place job.now (from + length out.old) ≤ length job.now) }
     ensures { out.new ≡ fields job.now from (length out.old) }
 {
-    let mut i = 0;
-    while i < out.len() {
-        out[i] = field(job, form, from + i);
-        i += 1;
+    for (i, x) in out.iter_mut().enumerate() {
+        *x = field(job, form, from + i);
     }
 }
 
@@ -89,52 +79,44 @@ fn misplaced(job: &[u8], form: Form, d: u32, n: u32) -> bool
     ensures { result ≡ (ltb most_degree (job_count job.now) || misplaced job.now d n) }
 {
     let r = field(job, form, 3);
-    if MOST_DEGREE < r {
-        return true;
-    }
-    if field(job, form, 4) as usize != form.place(HEAD_FIELDS) {
-        return true;
-    }
     let rows = HEAD_FIELDS + r as usize;
-    if field(job, form, 5) as usize != form.place(rows) {
-        return true;
-    }
     let end = rows + ((d + 1) * n) as usize;
-    job.len() != form.place(end)
+    MOST_DEGREE < r
+        || field(job, form, 4) as usize != form.place(HEAD_FIELDS)
+        || field(job, form, 5) as usize != form.place(rows)
+        || job.len() != form.place(end)
 }
 
 // D, N, and then whether the others fit them: a field can hold any number, so nothing is multiplied before the factors are judged.
-fn check_sizes(job: &[u8], form: Form) -> Verdict
+fn check_sizes(job: &[u8], form: Form) -> Result<(), Refusal>
     requires { FormIs job.now form × (place job.now head_fields ≤ length job.now) }
-    ensures { result ≡ judge (size_checks job.now) }
+    ensures { verdict result ≡ judge (size_checks job.now) }
 {
     let d = field(job, form, 1);
     if outside(1, MOST_DEGREE, d) {
-        return refuse(3, 0);
+        return Err(Refusal::Degree);
     }
     let n = field(job, form, 2);
     if outside(1, MOST_WIDTH, n) {
-        return refuse(4, 0);
+        return Err(Refusal::Terms);
     }
     if misplaced(job, form, d, n) {
-        return refuse(5, 0);
+        return Err(Refusal::Rows);
     }
-    Verdict::Pass
+    Ok(())
 }
 
 // All that is judged before the polynomial and its roots are looked at.
-pub fn check_job(job: &[u8]) -> Verdict
-    ensures { result ≡ judge (job_checks job.now) }
+pub fn check_job(job: &[u8]) -> Result<(), Refusal>
+    ensures { verdict result ≡ judge (job_checks job.now) }
 {
     if job.len() < 2 {
-        return refuse(5, 0); // not even a first word
+        return Err(Refusal::Rows); // not even a first word
     }
     let form = form_of(job);
     if job.len() < form.place(HEAD_FIELDS) {
-        return refuse(5, 0);
+        return Err(Refusal::Rows);
     }
-    if let Verdict::Refuse(r) = check_modulus(field(job, form, 0)) {
-        return Verdict::Refuse(r);
-    }
+    check_modulus(field(job, form, 0))?;
     check_sizes(job, form)
 }

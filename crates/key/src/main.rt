@@ -8,7 +8,6 @@ ghost use Rattle.typed.specs.Key.{Keyed};
 
 use input::read_full;
 use listing::limits::TEXT_ROOM;
-use numbers::refusal::Answer;
 use std::io;
 use std::io::Print;
 use typed::limits::INPUT_ROOM;
@@ -19,8 +18,8 @@ fn reply(input: &[u8], text: &mut [u8]) -> usize
     ensures { Keyed input.now text.old (accepted result) text.new }
 {
     match typed::key(input, text) {
-        Answer::Done(long) => long as usize,
-        Answer::Refused(_) => 0,
+        Ok(long) => long as usize,
+        Err(_) => 0,
     }
 }
 

@@ -146,10 +146,8 @@ fn rows_before(s: &[u32], i: usize) -> usize
     ensures { result ≡ sum_to i (power s.now) }
 {
     let mut sum = 0;
-    let mut l = 0;
-    while l < i {
+    for l in 0..i {
         sum += power_at(s, l) as usize;
-        l += 1;
     }
     sum
 }

@@ -35,10 +35,8 @@ pub fn write_roots(roots: &[u32], powers: &[u32], out: &mut [u32])
     requires { (length powers.now ≡ length roots.now) × (length roots.now ≤ largest_degree) × (length out.old ≡ length roots.now * 2) }
     ensures { out.new ≡ table (length roots.now) 2 (root_table roots.now powers.now) }
 {
-    let mut i = 0;
-    while i < roots.len() {
+    for i in 0..roots.len() {
         out[2 * i] = roots[i];
         out[2 * i + 1] = powers[i];
-        i += 1;
     }
 }

@@ -32,10 +32,7 @@ use borrow.Author.Tests.{le-ltb, lt-ltb, ltb-false, ne_eqb}
 use Rattle.algebra.specs.Sums.{sum_to}
 use Rattle.algebra.proofs.SumsLaws.{sum_to-ext, sum_to-count}
 use Rattle.numbers.specs.Words.{word, choose, tabulate, over}
-use Rattle.numbers.specs.Refusals.{check, judge, refusal, Outcome, accepted, refused, outcome_after, written, Leaves}
-use Rattle.numbers.specs.declared.refusal.Refusal.{Refusal}
-use Rattle.numbers.specs.declared.refusal.Verdict.{Verdict}
-use Rattle.numbers.specs.declared.refusal.Verdict.TheVariants.{Pass, Refuse}
+use Rattle.numbers.specs.Refusals.{check, judge, refusal, Outcome, accepted, refused, outcome_after, written, Leaves, Row, Verdict, Pass, Refuse}
 use Rattle.numbers.specs.One.{TheOne, One}
 use Rattle.numbers.proofs.OneLaws.{one_same}
 use Rattle.numbers.proofs.RefusalsLaws.{after-pass, after-refuse, pass-parts, take-check, skip-check, none-judged, answer-refused, unlike, accepted-pass}
@@ -119,7 +116,7 @@ module _ (p D N : ℕ) (rows lengths roots old : List ℕ) (a : Outcome ℕ) (ne
   rooted-some l o = listed-opened (whole_of p D N rows roots) old a new l (subst (λ x. Opened (given_of p D N rows x roots) old a new) whole o)
 
 -- the verdict of a job: its own checks', or else that of opening its sheet
-pub list-refused : (b : List ℕ) (r : Refusal) → judge (job_checks b) ≡ Refuse r → list_verdict b ≡ Refuse r
+pub list-refused : (b : List ℕ) (r : Row) → judge (job_checks b) ≡ Refuse r → list_verdict b ≡ Refuse r
 unfolding list_verdict
 list-refused b r e = after-refuse (job_checks b) (rooted_checks (job_given b) (needed (rooted (job_given b)))) r e
 
@@ -241,10 +238,10 @@ module _ (g : Given) (k : ℕ) (s u : List ℕ) (hs : Holds g k s) (hu : Holds g
       let lines : (p N r : ℕ) → List ℕ → List ℕ = λ p N r h. row_lines Roots p N r (rows_at h 0 N) in
       ap₂ ◌++◌ same_head (ap₂ (λ (p N : ℕ). lines p N (count s) (root_words s)) same-p same-N ∙ ap₂ (lines (modulus u) (width u)) same-r words)
 
-never : {A : Type 0} (v : Verdict) (r : Refusal) → v ≡ Refuse r → v ≡ Pass → A
+never : {A : Type 0} (v : Verdict) (r : Row) → v ≡ Refuse r → v ≡ Pass → A
 never v r e q = absurd (let z : ◌≡◌ {A = ℕ} 0 1 = cc in omega arith)
 
-same-refusal : (v : Verdict) (r q : Refusal) → v ≡ Refuse r → v ≡ Refuse q → r ≡ q
+same-refusal : (v : Verdict) (r q : Row) → v ≡ Refuse r → v ≡ Refuse q → r ≡ q
 same-refusal v r q e f = cc
 
 -- what a sheet shows, computed
@@ -256,10 +253,10 @@ abbrev shown_text : Profile → List ℕ → List ℕ
 shown_text Factors s = listing_text s
 shown_text Roots s = roots_by (multiple_verdict s) s
 
-pub roots-refused : (s : List ℕ) (r : Refusal) → multiple_verdict s ≡ Refuse r → RootsShown s (refused_text r.number r.detail)
+pub roots-refused : (s : List ℕ) (r : Row) → multiple_verdict s ≡ Refuse r → RootsShown s (refused_text r.number r.detail)
 unfolding multiple_verdict
 roots-refused s r e = record {
-  refused = λ q f. ap (λ (x : Refusal). refused_text x.number x.detail) (same-refusal _ r q e f);
+  refused = λ q f. ap (λ (x : Row). refused_text x.number x.detail) (same-refusal _ r q e f);
   listed = λ f h x. never _ r e f;
 }
 
@@ -292,9 +289,9 @@ shown-same Roots g k s u hs hu = go (multiple_verdict s) refl
     go (Refuse r) e = rw (sym (verdict-same g k s u hs hu), e) refl
 
 -- the text under a verdict
-pub text-refused : (profile : Profile) (v : Verdict) (g : Given) (r : Refusal) → v ≡ Refuse r → TextOf profile v g (refused_text r.number r.detail)
+pub text-refused : (profile : Profile) (v : Verdict) (g : Given) (r : Row) → v ≡ Refuse r → TextOf profile v g (refused_text r.number r.detail)
 text-refused profile v g r e = record {
-  refused = λ q f. ap (λ (x : Refusal). refused_text x.number x.detail) (same-refusal v r q e f);
+  refused = λ q f. ap (λ (x : Row). refused_text x.number x.detail) (same-refusal v r q e f);
   listed = λ f s h. never v r e f;
 }
 
@@ -487,7 +484,7 @@ module _ (b : List ℕ) (p D N : ℕ) (rows roots : List ℕ) (ep : p ≡ job_mo
       subst (λ (v : Verdict). Wrote profile v (rooted (job_given b)) out at new) (sym (list-verdict b sheet_room e refl)) s
 
 -- the text of a job that its own checks refuse
-pub wrote-early : (profile : Profile) (b : List ℕ) (r : Refusal) {out new : List ℕ} {at : ℕ} → judge (job_checks b) ≡ Refuse r → Puts refusal_room (refused_text r.number r.detail) 0 out at new
+pub wrote-early : (profile : Profile) (b : List ℕ) (r : Row) {out new : List ℕ} {at : ℕ} → judge (job_checks b) ≡ Refuse r → Puts refusal_room (refused_text r.number r.detail) 0 out at new
     → Wrote profile (list_verdict b) (rooted (job_given b)) out at new
 wrote-early profile b r e f = record {
   text = refused_text r.number r.detail;

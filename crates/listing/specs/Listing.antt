@@ -13,10 +13,7 @@
 -- Assumes nothing.
 use Rattle.std.specs.Prelude.{ℕ, ◌+◌, ◌*◌, ◌≤◌, ◌≡◌, List, [], ◌∷◌, ◌++◌, ltb, eqb, length}
 use Rattle.numbers.specs.Words.{choose, over}
-use Rattle.numbers.specs.Refusals.{Check, check, judge, Outcome, outcome_after, written}
-use Rattle.numbers.specs.declared.refusal.Refusal.{Refusal}
-use Rattle.numbers.specs.declared.refusal.Verdict.{Verdict}
-use Rattle.numbers.specs.declared.refusal.Verdict.TheVariants.{Pass, Refuse}
+use Rattle.numbers.specs.Refusals.{Check, check, judge, Outcome, outcome_after, written, Row, Verdict, Pass, Refuse}
 use Rattle.sheet.specs.Sheet.{Given, whole_of, Holds}
 use Rattle.open.specs.Open.{needed, open_checks}
 use Rattle.open.specs.Find.{with_roots, find_checks}
@@ -44,7 +41,7 @@ unfoldable pub list_verdict : List ℕ → Verdict
 list_verdict b = judge (job_checks b ++ rooted_checks (job_given b) (needed (rooted (job_given b))))
 
 pub record RootsShown (s text : List ℕ) : Type 0 where
-  pub refused : (r : Refusal) → judge (multiple_check s ∷ []) ≡ Refuse r → text ≡ refused_text r.number r.detail
+  pub refused : (r : Row) → judge (multiple_check s ∷ []) ≡ Refuse r → text ≡ refused_text r.number r.detail
   pub listed : judge (multiple_check s ∷ []) ≡ Pass → (h : List ℕ) → SeriesRoots s h → text ≡ roots_text s h
 
 abbrev pub Shows : Profile → (s text : List ℕ) → Type 0
@@ -52,7 +49,7 @@ Shows Factors s text = text ≡ listing_text s
 Shows Roots s text = RootsShown s text
 
 pub record TextOf (profile : Profile) (v : Verdict) (g : Given) (text : List ℕ) : Type 0 where
-  pub refused : (r : Refusal) → v ≡ Refuse r → text ≡ refused_text r.number r.detail
+  pub refused : (r : Row) → v ≡ Refuse r → text ≡ refused_text r.number r.detail
   pub listed : v ≡ Pass → (s : List ℕ) → Holds g g.N s → Shows profile s text
 
 abbrev pub IsListing : Profile → (job text : List ℕ) → Type 0

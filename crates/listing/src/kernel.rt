@@ -12,13 +12,20 @@ ghost use Rattle.listing.specs.Listing.{room_verdict, Listed};
 
 use crate::limits::{SERIES_ROOM, SHEET_ROOM};
 use job::limits::ROOTS_ROOM;
-use numbers::refusal::{Answer, Verdict, refused};
+use numbers::refusal::Refusal;
 use series::kernel::repeat;
 use simple::kernel::{check_multiple, write_roots};
 use text::Profile;
 
 // The sheet of a job, whose rows are all known to N; roots that are not listed are found.
-fn open_known(p: u32, d: u32, n: u32, rows: &[u32], roots: &[u32], sheet: &mut [u32]) -> Answer
+fn open_known(
+    p: u32,
+    d: u32,
+    n: u32,
+    rows: &[u32],
+    roots: &[u32],
+    sheet: &mut [u32],
+) -> Result<u32, Refusal>
     requires { d ≤ most_degree }
     ensures { OpenedJob (whole_of p d n rows.now roots.now) sheet.old (outcome result) sheet.new }
 {
@@ -36,8 +43,8 @@ fn write_series(sheet: &[u32], out: &mut [u8]) -> usize
     requires { Sound sheet.now × (degree sheet.now ≤ most_degree) × (width sheet.now ≤ most_width) × (text_room ≤ length out.old) }
     ensures { WroteSheet Roots sheet.now out.old result out.new }
 {
-    if let Verdict::Refuse(r) = check_multiple(sheet) {
-        return text::put_refusal(r.number, r.detail, out);
+    if let Err(r) = check_multiple(sheet) {
+        return text::put_refused(r, out);
     }
     let h = layout::read_header(sheet);
     let words = h.count * h.width;
@@ -71,25 +78,25 @@ pub fn write_given(
     ensures { WroteGiven profile (whole_of p d n rows.now roots.now) out.old result out.new }
 {
     let mut sheet = [0u32; SHEET_ROOM];
-    if let Answer::Refused(r) = open_known(p, d, n, rows, roots, &mut sheet) {
-        return text::put_refusal(r.number, r.detail, out);
+    if let Err(r) = open_known(p, d, n, rows, roots, &mut sheet) {
+        return text::put_refused(r, out);
     }
-    extend::extend(&mut sheet, n);
+    let _ = extend::extend(&mut sheet, n);
     write_sheet(profile, &sheet, out)
 }
 
 // A text, if `out` has room for all of it.
-pub fn hand_over(text: &[u8], out: &mut [u8]) -> Answer
+pub fn hand_over(text: &[u8], out: &mut [u8]) -> Result<u32, Refusal>
     requires { length text.now ≤ text_room }
     ensures answer { outcome result ≡ outcome_after (room_verdict text.now out.old) (length text.now) }
     ensures bytes { out.new ≡ written (room_verdict text.now out.old) (over text.now out.old) out.old }
 {
     let long = text.len() as u32;
     if out.len() < text.len() {
-        return refused(10, long);
+        return Err(Refusal::Short(long));
     }
     text::put(text, 0, out);
-    Answer::Done(long)
+    Ok(long)
 }
 
 // What a job comes to, in a buffer that has room for every text, and how long it is.
@@ -98,7 +105,7 @@ pub fn reply(profile: Profile, job: &[u8], text: &mut [u8]) -> usize
     ensures { Listed profile job.now text.old (accepted result) text.new }
 {
     match crate::list_as(profile, job, text) {
-        Answer::Done(long) => long as usize,
-        Answer::Refused(_) => 0,
+        Ok(long) => long as usize,
+        Err(_) => 0,
     }
 }

@@ -2,8 +2,7 @@
 #![tactic(auto)]
 
 ghost use Rattle.std.specs.Prelude.{◌≡◌, ◌≤◌, length};
-ghost use Rattle.numbers.specs.Refusals.{judge, outcome};
-ghost use Rattle.numbers.specs.declared.refusal.Verdict.TheVariants.{Pass};
+ghost use Rattle.numbers.specs.Refusals.{judge, outcome, Pass};
 ghost use Rattle.job.specs.Job.{job_checks};
 ghost use Rattle.text.specs.Limits.{text_room};
 ghost use Rattle.text.specs.declared.Profile.TheVariants.{Factors, Roots};
@@ -12,7 +11,7 @@ ghost use Rattle.listing.specs.Listing.{job_given, rooted, list_verdict, Listed}
 
 use crate::limits::TEXT_ROOM;
 use job::limits::{HEAD_FIELDS, ROOTS_ROOM, ROWS_ROOM};
-use numbers::refusal::{Answer, Verdict};
+use numbers::refusal::Refusal;
 use text::Profile;
 
 pub mod kernel; // the text of what is given, handing a text over, and a job's text for a program
@@ -41,14 +40,14 @@ fn write_text(profile: Profile, job: &[u8], out: &mut [u8]) -> usize
     requires { text_room ≤ length out.old }
     ensures { Wrote profile (list_verdict job.now) (rooted (job_given job.now)) out.old result out.new }
 {
-    if let Verdict::Refuse(r) = job::check_job(job) {
-        return text::put_refusal(r.number, r.detail, out);
+    if let Err(r) = job::check_job(job) {
+        return text::put_refused(r, out);
     }
     write_checked(profile, job, out)
 }
 
 // What a job's listing shows, or the line of its refusal.
-fn list_as(profile: Profile, job: &[u8], out: &mut [u8]) -> Answer
+fn list_as(profile: Profile, job: &[u8], out: &mut [u8]) -> Result<u32, Refusal>
     ensures { Listed profile job.now out.old (outcome result) out.new }
 {
     let mut bytes = [0u8; TEXT_ROOM];
@@ -57,14 +56,14 @@ fn list_as(profile: Profile, job: &[u8], out: &mut [u8]) -> Answer
 }
 
 // The listing of a job: its factors. The answer is the number of bytes.
-pub fn list(job: &[u8], out: &mut [u8]) -> Answer
+pub fn list(job: &[u8], out: &mut [u8]) -> Result<u32, Refusal>
     ensures { Listed Factors job.now out.old (outcome result) out.new }
 {
     list_as(Profile::Factors, job, out)
 }
 
 // The listing of a job's roots, all of which have power 1, as series with signed entries. The answer is the number of bytes.
-pub fn list_roots(job: &[u8], out: &mut [u8]) -> Answer
+pub fn list_roots(job: &[u8], out: &mut [u8]) -> Result<u32, Refusal>
     ensures { Listed Roots job.now out.old (outcome result) out.new }
 {
     list_as(Profile::Roots, job, out)

@@ -1,8 +1,9 @@
 -- Products and powers modulo f.
 --   Multiplying ..     the product so far: the coefficients of a from i on, times b
---   multiplying-none, multiplying-small, multiplying-step, multiplying-all    the loop that adds it up
+--   multiplying-none, multiplying-step    the loop that adds it up
 --   room-long, room-empty    the array in which sums are added up
---   sums-long, modulus-for   what is the same as something modulo f has as many words as f asks for
+--   modulus-at         the modulus by the number of words that its remainders have
+--   sums-long          what is the same as something modulo f has as many words as f asks for
 --   sums-fit, sums-lent, lent-long, lent-reduce    the sums in the array, reduced modulo p, are the remainder
 --   modulus-two        p is 2 or more
 --   line-below, line-product    Y + c as words, and times a polynomial
@@ -10,15 +11,14 @@
 --   product-same       a product of remainders is the product of what they are the remainders of
 --   digit-none, digit-one    squared, and times Y + c where the digit is 1
 --   one_below, line-is       the words 1, 0, 0, ..: what is multiplied by them stays
---   two-one, two-next  powers of 2
 --   Powering ..        the power by the digits of n down to that of `bit`, a power of 2
---   powering-none, powering-step, powering-all    the loop over the digits
+--   powering-none, powering-step    the loop over the digits
 -- Assumes nothing.
 use mathlib.Core.Path.{◌≡◌, refl, sym, ap, ap₂, subst, ◌∙◌, fun_ext}
 use mathlib.Core.List.{List, [], ◌∷◌, ◌++◌}
 use mathlib.Core.Logic.{⊎_elim}
 use Prim.Native.Nat.{ℕ, zero, suc, ◌+◌, ◌-◌, ◌*◌, ◌/◌, ◌%◌, ◌≤◌, ◌<◌, Fin}
-use native.Mathlib.Nat.{mod-lt, mul-le-mul, le_refl, div-eq_of_lt, div-div-eq-div-mul, div-add-mod', div-one}
+use native.Mathlib.Nat.{mod-lt, div-eq_of_lt, div-div-eq-div-mul, div-add-mod'}
 use native.Mathlib.Omega.{arith}
 use lib.ListN.{length, take, drop, length-append, length-drop, get_or-eq_default}
 use lib.Seq.{get_or-drop, take_at, length-take-le}
@@ -40,8 +40,11 @@ use Rattle.series.proofs.SeriesLaws.{word_below}
 use Rattle.columns.specs.internal.Column.{first_only}
 use Rattle.columns.proofs.SolveLaws.{below-pol}
 use Rattle.powers.specs.internal.Powers.{over_field}
-use Rattle.modulo.specs.internal.Modulo.{sum_bound, turned, two_to, PowerOfTwo, ModulusOf, Congruent, Remainder, words_of, times, power, plus}
+use Rattle.modulo.specs.internal.Modulo.{turned, two_to, PowerOfTwo, ModulusOf, Congruent, Remainder, words_of, times, power, plus}
 use Rattle.modulo.proofs.TurnLaws.{two_products, turned-long, turned-bound, turned-modulo}
+
+pub modulus-at : {p d : ℕ} {f : List ℕ} → ModulusOf p f (length f - 1) → length f ≡ d + 1 → ModulusOf p f d
+modulus-at {p} {d} {f} m e = subst (ModulusOf p f) (let z : length f - 1 ≡ d = omega arith in z) m
 
 -- over ring variables
 module _ {S : Type 0} (𝓢 : CommRing S) where
@@ -73,11 +76,6 @@ multiplying-none p f a b e l z = record {
 }
 
 module _ (p : ℕ) (f a b : List ℕ) (i : ℕ) (e : List ℕ) (h : Multiplying p f a b i e) (low : 0 < i) (high : i ≤ length a) where
-  pub multiplying-small : length a ≤ largest_degree → AllBelow sum_bound e
-  multiplying-small few k l =
-      let z = h.bound k l in
-      omega (arith, mul-le-mul {n₁ = length a - i} {m₁ = two_products} {n₂ = 31} {m₂ = two_products} (omega arith) (le_refl _))
-
   pub multiplying-step : ModulusOf p f (length e) → AllBelow p a → AllBelow p b → (e' : List ℕ) → e' ≡ turned p f (word a (i - 1)) b e → Multiplying p f a b (i - 1) e'
   multiplying-step m a_below b_below e' q =
       let n = h.long in
@@ -112,14 +110,6 @@ module _ (p : ℕ) (f a b : List ℕ) (i : ℕ) (e : List ℕ) (h : Multiplying 
           (get_or-drop (i - 1) a 0 0 ∙ ap (word a) (let z : i - 1 + 0 ≡ i - 1 = omega arith in z))
           (fun_ext (λ j. ap (rem p pos) (get_or-drop (i - 1) a (suc j) 0 ∙ ap (word a) (let z : i - 1 + suc j ≡ i + j = omega arith in z) ∙ sym (get_or-drop i a j 0))))
 
-pub multiplying-all : (p : ℕ) (f a b : List ℕ) (i : ℕ) (e : List ℕ) → Multiplying p f a b i e → i ≡ 0 → length f ≡ length e + 1
-    → Congruent p f (times p (words_of p a) (words_of p b)) e
-multiplying-all p f a b i e h z l = record {
-  long = l;
-  same = λ pos.
-      subst (λ k. SameModulo (Fp p pos) (over_field p pos f) ((Series (Fp p pos)).mul (over_field p pos (drop k a)) (over_field p pos b)) (over_field p pos e)) z (h.same pos);
-}
-
 remainder-reduce : (p : ℕ) (f : List ℕ) (g : (pos : zero < p) → ℕ → Fin p) (e out : List ℕ) → 1 ≤ p → Congruent p f g e
     → out ≡ tabulate (length e) (λ j. word e j % p) → Remainder p f g out
 remainder-reduce p f g e out one h q = record {
@@ -153,9 +143,6 @@ room-empty d few = take_below 1 d room few (none-large 1 room (let e : first_lar
 module _ {p d : ℕ} {f : List ℕ} {g : (pos : zero < p) → ℕ → Fin p} {e : List ℕ} (m : ModulusOf p f d) (h : Congruent p f g e) where
   pub sums-long : length e ≡ d
   sums-long = omega (arith, m.long, h.long)
-
-  pub modulus-for : ModulusOf p f (length e)
-  modulus-for = subst (ModulusOf p f) (sym sums-long) m
 
   pub sums-fit : d ≤ length (e ++ drop d room)
   sums-fit = omega (arith, length-append e (drop d room), sums-long)
@@ -244,19 +231,6 @@ module _ (p : ℕ) (d : ℕ) (some : 1 ≤ d) where
       (λ pos. let S = Series (Fp p pos) in
       modulo-refl (Fp p pos) (over_field p pos f) (sym (ap (S.mul (g pos)) (ap (over_field p pos) q ∙ one-words pos) ∙ mul-one S (g pos))))
 
-two_pos : (i : ℕ) → 1 ≤ two_to i
-unfolding two_to
-two_pos zero = omega arith
-two_pos (suc i) = let z = two_pos i in omega arith
-
-pub two-one : PowerOfTwo 1
-unfolding two_to
-two-one = (0, refl)
-
-pub two-next : (bit : ℕ) → PowerOfTwo bit → PowerOfTwo (bit * 2)
-unfolding two_to
-two-next bit h = (suc h.0, let e = h.1 in omega arith)
-
 pub record Powering (p : ℕ) (f : List ℕ) (c n bit : ℕ) (out : List ℕ) : Type 0 where
   pub two : PowerOfTwo bit
   pub remainder : Remainder p f (power p (plus p c) (n / bit)) out
@@ -307,10 +281,3 @@ module _ (p : ℕ) (f : List ℕ) (c n : ℕ) where
               (modulo-refl K F refl)
               (product-same p f pos _ _ out out (h.remainder.congruent.same pos) (h.remainder.congruent.same pos)))) r;
         }
-
-  pub powering-all : (bit : ℕ) (out : List ℕ) → Powering p f c n bit out → bit ≤ 1 → Remainder p f (power p (plus p c) n) out
-  powering-all bit out h l =
-      let z = two_pos h.two.0 in
-      let e = h.two.1 in
-      let one : bit ≡ 1 = omega arith in
-      subst (λ m. Remainder p f (power p (plus p c) m) out) (ap (λ b. n / b) one ∙ div-one n) h.remainder

@@ -1,5 +1,5 @@
 -- One turn of the product modulo f.
---   turn-word, turn-all    the loop that writes it, from the last word down
+--   turn-all          the end of the loop that writes it, from the last word down
 --   turned-bound      its words stay small
 --   turned-modulo     Y · s + c · b is the same modulo f
 -- Assumes nothing.
@@ -34,13 +34,6 @@ two_products = 144115188075855872
 module _ (p : ℕ) (f : List ℕ) (c : ℕ) (b s : List ℕ) where
   abbrev q : ℕ
   q = word s (length s - 1) % p
-
-  pub turn-word : (e : List ℕ) (j x r : ℕ) → Sinking (turned_at p f c b s) s e j → 1 < j → j ≤ length s → x ≡ q
-      → r ≡ word e (j - 1 - 1) + (p - word f (j - 1)) * x + c * word b (j - 1) → Sinking (turned_at p f c b s) s (set e (j - 1) r) (j - 1)
-  turn-word e j x r w l g ex er =
-      sinking-store (turned_at p f c b s) s e j r w (omega arith) g
-      (er ∙ ap₂ (λ y z. y + (p - word f (j - 1)) * z + c * word b (j - 1))
-      (w.kept (j - 1 - 1) (omega arith) ∙ ap (before s) (let z : suc (j - 1 - 1) ≡ j - 1 = omega arith in z)) ex)
 
   pub turn-all : (e : List ℕ) (j x r : ℕ) → Sinking (turned_at p f c b s) s e j → j ≡ 1 → 1 ≤ length s → x ≡ q
       → r ≡ 0 + (p - word f 0) * x + c * word b 0 → set e 0 r ≡ turned p f c b s

@@ -6,9 +6,7 @@ use Prim.Native.Nat.{ℕ}
 use mathlib.Core.Path.{◌≡◌, refl, sym, ◌∙◌, ap₂}
 use mathlib.Core.Logic.{◌↔◌}
 use mathlib.Core.List.{List}
-use Rattle.numbers.specs.Refusals.{Outcome, outcome_after, Leaves}
-use Rattle.numbers.specs.declared.refusal.Verdict.{Verdict}
-use Rattle.numbers.specs.declared.refusal.Verdict.TheVariants.{Pass, Refuse}
+use Rattle.numbers.specs.Refusals.{Outcome, outcome_after, Leaves, Verdict, Pass, Refuse}
 use Rattle.numbers.specs.One.{One, OneOutcome}
 
 pub one_of : {A : Type 0} (P : A → Type 0) (x : A) → P x → ((y z : A) → P y → P z → y ≡ z) → One P

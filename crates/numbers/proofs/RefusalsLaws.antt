@@ -14,16 +14,18 @@ use Rattle.algebra.specs.Prime.{Prime}
 use Rattle.numbers.specs.Words.{choose, first_large, over, outside}
 use Rattle.numbers.specs.internal.Facts.{AllBelow}
 use Rattle.numbers.specs.Divisor.{least_divisor}
-use Rattle.numbers.specs.Refusals.{Check, check, judge, refusal, Outcome, accepted, refused, outcome_after, written, modulus_checks, unreduced, rows_check, width_check, lengths_check, reduced_check, room_check, shape_checks, input_checks, operation_checks, Leaves}
+use Rattle.numbers.specs.Refusals.{Check, check, judge, refusal, Outcome, accepted, refused, outcome_after, written, modulus_checks, unreduced, rows_check, width_check, lengths_check, reduced_check, room_check, shape_checks, input_checks, operation_checks, Leaves, verdict, row_of, Row, Verdict, Pass, Refuse, number, detail}
 use Rattle.numbers.specs.declared.refusal.Refusal.{Refusal}
-use Rattle.numbers.specs.declared.refusal.Verdict.{Verdict}
-use Rattle.numbers.specs.declared.refusal.Verdict.TheVariants.{Pass, Refuse}
+use Rattle.numbers.specs.declared.refusal.Refusal.TheVariants.{ModulusRange, Composite, Degree, Terms, Rows, Unreduced, NotMonic, RootList, Unsplit, Short, Flat, NoUnit, Spoiled, Beyond, Behind, NoFactor, Unreadable, Deep, High, Entry, KnownTerms, MultipleRoot, Many}
+use Rattle.std.specs.Prelude.{Result, Ok, Err, IsErrAnd}
+use Rattle.std.specs.Result.{is_err}
+use Rattle.std.proofs.lemmas.Result.{err_from_is_err_and}
 use Rattle.numbers.proofs.WordsLaws.{none-large, below-append, append-below, large-there, lt-or-ge, true-false}
 use Rattle.numbers.proofs.DivisorLaws.{least-prime, prime-least}
 use Rattle.numbers.specs.Limits.{largest_modulus, most_rows, largest_width}
 use Rattle.numbers.specs.internal.Limits.{modulus_bound}
 
-pub not-pass : {A : Type 0} (r : Refusal) → Refuse r ≡ Pass → A
+pub not-pass : {A : Type 0} (r : Row) → Refuse r ≡ Pass → A
 not-pass r e = absurd (let z : ◌≡◌ {A = ℕ} 0 1 = cc in omega arith)
 
 pub none-judged : judge [] ≡ Pass
@@ -41,7 +43,7 @@ after-pass (c ∷ cs) ds e = go c.applies e (after-pass cs ds)
     go true e more = not-pass _ e
     go false e more = more e
 
-pub after-refuse : (cs ds : List Check) (r : Refusal) → judge cs ≡ Refuse r → judge (cs ++ ds) ≡ Refuse r
+pub after-refuse : (cs ds : List Check) (r : Row) → judge cs ≡ Refuse r → judge (cs ++ ds) ≡ Refuse r
 unfolding judge
 after-refuse [] ds r e = not-pass r (sym e)
 after-refuse (c ∷ cs) ds r e = go c.applies e (after-refuse cs ds r)
@@ -51,8 +53,59 @@ after-refuse (c ∷ cs) ds r e = go c.applies e (after-refuse cs ds r)
     go true e more = e
     go false e more = more e
 
+-- a refusal is told by its number and its detail
+abbrev named : (n d : ℕ) → Refusal
+named n d = choose (eqb n 1) ModulusRange (choose (eqb n 2) (Composite d) (choose (eqb n 3) Degree (choose (eqb n 4) Terms (choose (eqb n 5) Rows (choose (eqb n 6) (Unreduced d) (choose (eqb n 7) NotMonic (choose (eqb n 8) RootList (choose (eqb n 9) Unsplit (choose (eqb n 10) (Short d) (choose (eqb n 11) Flat (choose (eqb n 12) NoUnit (choose (eqb n 13) Spoiled (choose (eqb n 14) Beyond (choose (eqb n 15) Behind (choose (eqb n 16) NoFactor (choose (eqb n 17) Unreadable (choose (eqb n 18) Deep (choose (eqb n 19) High (choose (eqb n 20) Entry (choose (eqb n 21) KnownTerms (choose (eqb n 22) (MultipleRoot d) (Many))))))))))))))))))))))
+
+named-row : (r : Refusal) → named (number r) (detail r) ≡ r
+named-row ModulusRange = refl
+named-row (Composite d) = refl
+named-row Degree = refl
+named-row Terms = refl
+named-row Rows = refl
+named-row (Unreduced d) = refl
+named-row NotMonic = refl
+named-row RootList = refl
+named-row Unsplit = refl
+named-row (Short d) = refl
+named-row Flat = refl
+named-row NoUnit = refl
+named-row Spoiled = refl
+named-row Beyond = refl
+named-row Behind = refl
+named-row NoFactor = refl
+named-row Unreadable = refl
+named-row Deep = refl
+named-row High = refl
+named-row Entry = refl
+named-row KnownTerms = refl
+named-row (MultipleRoot d) = refl
+named-row Many = refl
+
+pub row-one : (r s : Refusal) → row_of r ≡ row_of s → r ≡ s
+row-one r s e = sym (named-row r) ∙ ap (λ (x : Row). named x.number x.detail) e ∙ named-row s
+
+-- what a call says of the verdict that it tells
+pub told-pass : {r : Result Unit Refusal} {v : Verdict} {x : Unit} → verdict r ≡ v → r ≡ Ok x → v ≡ Pass
+told-pass e q = sym e ∙ ap verdict q
+
+pub told-refuse : {r : Result Unit Refusal} {v : Verdict} {x : Refusal} → verdict r ≡ v → r ≡ Err x → v ≡ Refuse (row_of x)
+told-refuse e q = sym e ∙ ap verdict q
+
+pub told-fine : (r : Result Unit Refusal) {v : Verdict} → verdict r ≡ v → is_err r ≡ false → v ≡ Pass
+told-fine (Ok x) e q = sym e
+told-fine (Err x) e q = true-false q
+
+pub told-failed : (r : Result Unit Refusal) {v : Verdict} → verdict r ≡ v → is_err r ≡ true → (x : Row) × (v ≡ Refuse x)
+told-failed (Ok x) e q = true-false (sym q)
+told-failed (Err x) e q = (row_of x, sym e)
+
+-- what `?` hands up is the refusal that it met
+pub handed-up : {A : Type 0} {x : Refusal} {r : Result A Refusal} → IsErrAnd r (λ y. y ≡ x) → r ≡ Err x
+handed-up {A} {x} {r} h = let p = err_from_is_err_and r h in p.1 ∙ ap Err p.2
+
 -- where a call told the verdict
-pub after-told : (cs ds : List Check) (v : Verdict) (r : Refusal) → v ≡ judge cs → v ≡ Refuse r → judge (cs ++ ds) ≡ Refuse r
+pub after-told : (cs ds : List Check) (v : Verdict) (r : Row) → v ≡ judge cs → v ≡ Refuse r → judge (cs ++ ds) ≡ Refuse r
 after-told cs ds v r e q = after-refuse cs ds r (sym e ∙ q)
 
 -- what comes after a list of checks counts by its verdict alone
@@ -230,7 +283,7 @@ accepted-pass Pass x T e = (refl, let z : T ≡ x = cc in z)
 accepted-pass (Refuse r) x T e = unlike T r.number r.detail (sym e)
 
 -- after a refusal the answer is that refusal, and the words are as they were
-pub answer-refused : {v : Verdict} (r : Refusal) (n : ℕ) (new old : List ℕ) → v ≡ Refuse r
+pub answer-refused : {v : Verdict} (r : Row) (n : ℕ) (new old : List ℕ) → v ≡ Refuse r
     → record { answer : ◌≡◌ {A = Outcome ℕ} (refused r.number r.detail) (outcome_after v n); words : old ≡ written v new old }
 answer-refused r n new old e = rw e (record { answer = refl; words = refl })
 
@@ -240,7 +293,7 @@ pub answer-done : {v : Verdict} (F : ℕ → List ℕ) (m k n : ℕ) (old out : 
 answer-done F m k n old out e w q = rw e (record { answer = refl; words = w ∙ ap (λ (x : ℕ). over (F x) old) q })
 
 -- an answer and what it leaves, after a verdict
-pub leave-refused : {v : Verdict} (r : Refusal) (x : ℕ) (Done : Type 0) (s : List ℕ) → v ≡ Refuse r
+pub leave-refused : {v : Verdict} (r : Row) (x : ℕ) (Done : Type 0) (s : List ℕ) → v ≡ Refuse r
     → (◌≡◌ {A = Outcome ℕ} (refused r.number r.detail) (outcome_after v x)) × Leaves v Done s s
 leave-refused r x Done s e = (subst (λ v. ◌≡◌ {A = Outcome ℕ} (refused r.number r.detail) (outcome_after v x)) (sym e) refl, subst (λ v. Leaves v Done s s) (sym e) refl)
 

@@ -127,8 +127,5 @@ rising-fails s (suc i) l g h =
 pub rising-passes : (s : List ℕ) (i : ℕ) → length s ≤ i → ((k : ℕ) → suc k < i → word s k < word s (suc k)) → true ≡ rising s
 rising-passes s i l h = sym (at-all_to (length s - 1) (λ i. ltb (word s i) (word s (suc i))) (λ k g. lt-ltb (word s k) (word s (suc k)) (h k (omega arith))))
 
-pub rising-more : (s : List ℕ) (i : ℕ) → 1 ≤ i → ((k : ℕ) → suc k < i → word s k < word s (suc k)) → word s (i - 1) < word s i → (k : ℕ) → suc k < i + 1 → word s k < word s (suc k)
-rising-more s i low h last k l = ⊎_elim (λ (e : suc k ≡ i). subst (λ n. word s n < word s (suc k)) (let z : suc k - 1 ≡ k = omega arith in z) (subst (λ n. word s (n - 1) < word s n) (sym e) last)) (λ g. h k g) (eq-or-lt_of_le (let z : suc k ≤ i = omega arith in z))
-
 pub rising-are : (s : List ℕ) → rising s ≡ true → Rising s
 rising-are s e i l = ltb-true _ _ (all_to-at (length s - 1) (λ i. ltb (word s i) (word s (suc i))) e i (omega arith))

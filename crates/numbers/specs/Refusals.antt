@@ -1,5 +1,8 @@
 -- Refusals by number: how every operation judges what it is given.
---   refusal n d         the refusal of number n with detail d
+--   Row, refusal n d    a row of the table of refusals with its detail word: number n, detail d
+--   number r, detail r  the table's number of a refusal that the code names, and its detail word; row_of r both
+--   Verdict             what a list of checks comes to: a pass, or a row
+--   verdict r           the same of an answer that says no more
 --   Check, check n b d  a row of the table of refusals: number n is given when b holds, with detail d
 --   judge checks        the first check of the list that applies: the checks stand in number order, but that 20 comes before 6, 21 after it, 24 after 3,
 --                       17 to 19 after 4, and 22 between 13 and 10
@@ -17,18 +20,62 @@
 --   input_checks ..      refusals 1 to 6 for such an operation
 --   operation_checks ..  and refusal 10, for an output of `room` words
 -- Assumes nothing.
-use Rattle.std.specs.Prelude.{ℕ, ◌*◌, ◌≡◌, Bool, not, ◌||◌, List, [], ◌∷◌, ◌++◌, ltb, eqb, length}
+use Rattle.std.specs.Prelude.{ℕ, ◌*◌, ◌≡◌, Bool, not, ◌||◌, List, [], ◌∷◌, ◌++◌, ltb, eqb, length, Result, Ok, Err}
 use Rattle.numbers.specs.Words.{choose, first_large, outside}
 use Rattle.numbers.specs.Divisor.{least_divisor}
 use Rattle.numbers.specs.declared.refusal.Refusal.{Refusal}
-use Rattle.numbers.specs.declared.refusal.Verdict.{Verdict}
-use Rattle.numbers.specs.declared.refusal.Verdict.TheVariants.{Pass, Refuse}
-use Rattle.numbers.specs.declared.refusal.Answer.{Answer}
-use Rattle.numbers.specs.declared.refusal.Answer.TheVariants.{Done, Refused}
+use Rattle.numbers.specs.declared.refusal.Refusal.TheVariants.{ModulusRange, Composite, Degree, Terms, Rows, Unreduced, NotMonic, RootList, Unsplit, Short, Flat, NoUnit, Spoiled, Beyond, Behind, NoFactor, Unreadable, Deep, High, Entry, KnownTerms, MultipleRoot, Many}
 use Rattle.numbers.specs.Limits.{largest_modulus, largest_degree, most_rows, largest_width}
 
-abbrev pub refusal : ℕ → ℕ → Refusal
+pub record Row : Type 0 where
+  pub number : ℕ
+  pub detail : ℕ
+
+abbrev pub refusal : ℕ → ℕ → Row
 refusal n d = record { number = n; detail = d }
+
+abbrev pub number : Refusal → ℕ
+number ModulusRange = 1
+number (Composite divisor) = 2
+number Degree = 3
+number Terms = 4
+number Rows = 5
+number (Unreduced position) = 6
+number NotMonic = 7
+number RootList = 8
+number Unsplit = 9
+number (Short needed) = 10
+number Flat = 11
+number NoUnit = 12
+number Spoiled = 13
+number Beyond = 14
+number Behind = 15
+number NoFactor = 16
+number Unreadable = 17
+number Deep = 18
+number High = 19
+number Entry = 20
+number KnownTerms = 21
+number (MultipleRoot root) = 22
+number Many = 24
+
+abbrev pub detail : Refusal → ℕ
+detail (Composite divisor) = divisor
+detail (Unreduced position) = position
+detail (Short needed) = needed
+detail (MultipleRoot root) = root
+detail _ = 0
+
+abbrev pub row_of : Refusal → Row
+row_of r = refusal (number r) (detail r)
+
+pub data Verdict : Type 0 where
+  Pass : Verdict
+  Refuse : Row → Verdict
+
+abbrev pub verdict : Result Unit Refusal → Verdict
+verdict (Ok _) = Pass
+verdict (Err r) = Refuse (row_of r)
 
 pub record Check : Type 0 where
   pub number : ℕ
@@ -50,9 +97,9 @@ abbrev pub outcome_after : {A : Type 0} → Verdict → A → Outcome A
 outcome_after Pass x = accepted x
 outcome_after (Refuse r) x = refused r.number r.detail
 
-abbrev pub outcome : Answer → Outcome ℕ
-outcome (Done n) = accepted n
-outcome (Refused r) = refused r.number r.detail
+abbrev pub outcome : {A : Type 0} → Result A Refusal → Outcome A
+outcome (Ok x) = accepted x
+outcome (Err r) = refused (number r) (detail r)
 
 abbrev pub written : Verdict → List ℕ → List ℕ → List ℕ
 written Pass new old = new

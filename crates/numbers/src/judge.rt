@@ -2,62 +2,45 @@
 ghost use Rattle.std.specs.Prelude.{◌≡◌, not, ◌||◌, ◌++◌, ◌+◌, ◌*◌, ◌<◌, ltb, eqb, length};
 ghost use Rattle.numbers.specs.Words.{first_large, outside, rising};
 ghost use Rattle.numbers.specs.Limits.{most_rows};
-ghost use Rattle.numbers.specs.Refusals.{judge, modulus_checks, input_checks, operation_checks};
+ghost use Rattle.numbers.specs.Refusals.{verdict, judge, modulus_checks, input_checks, operation_checks};
 
 use crate::kernel::least_divisor;
 use crate::limits::{LARGEST_MODULUS, LARGEST_WIDTH, MOST_ROWS};
-use crate::refusal::{Verdict, refuse};
+use crate::refusal::Refusal;
 
 // Whether n is below low or above high.
 pub fn outside(low: u32, high: u32, n: u32) -> bool
     ensures { result ≡ outside low high n }
 {
-    if n < low {
-        return true;
-    }
-    high < n
+    n < low || high < n
 }
 
 // Refusals 1 and 2.
-pub fn check_modulus(p: u32) -> Verdict
-    ensures { result ≡ judge (modulus_checks p) }
+pub fn check_modulus(p: u32) -> Result<(), Refusal>
+    ensures { verdict result ≡ judge (modulus_checks p) }
 {
     if outside(2, LARGEST_MODULUS, p) {
-        return refuse(1, 0);
+        return Err(Refusal::ModulusRange);
     }
     let d = least_divisor(p);
     if d < p {
-        return refuse(2, d);
+        return Err(Refusal::Composite(d));
     }
-    Verdict::Pass
+    Ok(())
 }
 
 // The position of the first word that is p or more, or the length where there is none.
 pub fn first_large(p: u32, s: &[u32]) -> usize
     ensures { result ≡ first_large p s.now }
 {
-    let mut i = 0;
-    while i < s.len() {
-        if p <= s[i] {
-            break;
-        }
-        i += 1;
-    }
-    i
+    s.iter().position(|x| p <= *x).unwrap_or(s.len())
 }
 
 // Whether each word is larger than the one before it.
 pub fn rises(s: &[u32]) -> bool
     ensures { result ≡ rising s.now }
 {
-    let mut i = 1;
-    while i < s.len() {
-        if s[i] <= s[i - 1] {
-            return false;
-        }
-        i += 1;
-    }
-    true
+    s.is_sorted_by(|x, y| x < y)
 }
 
 // The same in two slices, positions of the second counted on from the first.
@@ -67,32 +50,24 @@ fn first_large_of_two(p: u32, f: &[u32], g: &[u32]) -> usize
 {
     let i = first_large(p, f);
     if i < f.len() {
-        return i;
+        i
+    } else {
+        i + first_large(p, g)
     }
-    i + first_large(p, g)
 }
 
 // Whether one of these is the number of rows of no polynomial: a degree bound above the largest.
 fn too_many_rows(frows: usize, grows: usize, rows: usize) -> bool
     ensures { result ≡ (ltb most_rows frows || (ltb most_rows grows || ltb most_rows rows)) }
 {
-    if MOST_ROWS < frows {
-        return true;
-    }
-    if MOST_ROWS < grows {
-        return true;
-    }
-    MOST_ROWS < rows
+    MOST_ROWS < frows || MOST_ROWS < grows || MOST_ROWS < rows
 }
 
 // Whether one of two slices has not the words that it should have.
 fn other_lengths(f: usize, fwords: usize, g: usize, gwords: usize) -> bool
     ensures { result ≡ (not (eqb f fwords) || not (eqb g gwords)) }
 {
-    if f != fwords {
-        return true;
-    }
-    g != gwords
+    f != fwords || g != gwords
 }
 
 // Refusals 1 to 6 for an operation that takes frows rows f and grows rows g of n words each, and gives `rows` rows. Nothing is
@@ -105,28 +80,25 @@ pub fn check_inputs(
     g: &[u32],
     grows: usize,
     rows: usize,
-) -> Verdict
-    ensures { result ≡ judge (input_checks p n f.now frows g.now grows rows) }
+) -> Result<(), Refusal>
+    ensures { verdict result ≡ judge (input_checks p n f.now frows g.now grows rows) }
 {
-    let v = check_modulus(p);
-    if let Verdict::Refuse(_) = v {
-        return v;
-    }
+    check_modulus(p)?;
     if too_many_rows(frows, grows, rows) {
-        return refuse(3, 0);
+        return Err(Refusal::Degree);
     }
     if outside(1, LARGEST_WIDTH, n) {
-        return refuse(4, 0);
+        return Err(Refusal::Terms);
     }
     let width = n as usize;
     if other_lengths(f.len(), frows * width, g.len(), grows * width) {
-        return refuse(5, 0);
+        return Err(Refusal::Rows);
     }
     let at = first_large_of_two(p, f, g);
     if at < f.len() + g.len() {
-        return refuse(6, at as u32);
+        return Err(Refusal::Unreduced(at as u32));
     }
-    Verdict::Pass
+    Ok(())
 }
 
 // And refusal 10: the output has `room` words.
@@ -139,16 +111,13 @@ pub fn check_operation(
     grows: usize,
     rows: usize,
     room: usize,
-) -> Verdict
-    ensures { result ≡ judge (operation_checks p n f.now frows g.now grows rows room) }
+) -> Result<(), Refusal>
+    ensures { verdict result ≡ judge (operation_checks p n f.now frows g.now grows rows room) }
 {
-    let v = check_inputs(p, n, f, frows, g, grows, rows);
-    if let Verdict::Refuse(_) = v {
-        return v;
-    }
+    check_inputs(p, n, f, frows, g, grows, rows)?;
     let words = rows * n as usize;
     if room < words {
-        return refuse(10, words as u32);
+        return Err(Refusal::Short(words as u32));
     }
-    Verdict::Pass
+    Ok(())
 }

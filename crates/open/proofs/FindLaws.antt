@@ -25,15 +25,14 @@ use Rattle.algebra.specs.Prime.{Prime}
 use Rattle.algebra.proofs.SumsLaws.{sum_to-some}
 use Rattle.numbers.specs.Words.{word, tabulate}
 use Rattle.numbers.specs.internal.Facts.{AllBelow, Rising}
-use Rattle.numbers.specs.Refusals.{Check, judge, refusal, Outcome, accepted, room_check}
-use Rattle.numbers.specs.declared.refusal.Verdict.TheVariants.{Pass, Refuse}
+use Rattle.numbers.specs.Refusals.{Check, judge, refusal, Outcome, accepted, room_check, Pass, Refuse}
 use Rattle.numbers.specs.One.{OneOutcome}
 use Rattle.numbers.proofs.WordsLaws.{length-tabulate, word-tabulate}
 use Rattle.numbers.proofs.RefusalsLaws.{accepted-pass, take-check, skip-check, none-judged}
 use Rattle.powers.specs.internal.Powers.{GivesPowers, Unsplit}
 use Rattle.powers.proofs.FindingLaws.{gives_same}
 use Rattle.rootfinding.specs.Roots.{all_roots}
-use Rattle.rootfinding.specs.internal.Finding.{FoundRoots}
+use Rattle.rootfinding.specs.internal.Finding.{RootsAre}
 use Rattle.rootfinding.proofs.RootsLaws.{roots-rise, roots-below, roots_few, roots-complete, unsplit-all}
 use Rattle.sheet.specs.Sheet.{Given, given_of}
 use Rattle.open.specs.Open.{powers_of, needed, open_verdict, polynomial_checks, top_checks, list_checks, split_checks, OpenedBy, Opened}
@@ -104,17 +103,17 @@ module _ (g : Given) (h : RowsPass g) where
   )
 
   -- what was found: the listed words are all roots, and their powers
-  module _ (n : ℕ) (roots powers : List ℕ) (f : FoundRoots g.p e n roots powers) (one : 1 ≤ n) (fits : n ≤ length powers) where
+  module _ (n : ℕ) (roots powers : List ℕ) (f : RootsAre g.p e n roots powers) (fits : n ≤ length powers) where
     found-given : given_of g.p g.D g.N g.rows g.lengths (take n roots) ≡ G
-    found-given = ap (given_of g.p g.D g.N g.rows g.lengths) (f.yes one).0
+    found-given = ap (given_of g.p g.D g.N g.rows g.lengths) f.all
 
     found-powers : powers_of G ≡ some (take n powers)
     found-powers =
-        let count : n ≡ length (all_roots g.p e) = sym (length-take-le n roots f.fits) ∙ ap length (f.yes one).0 in
-        gives-some (take n powers) (length-take-le n powers fits ∙ count) (gives_same (λ i u. sym (get_or-take n powers i 0 (omega arith))) (f.yes one).1)
+        let count : n ≡ length (all_roots g.p e) = sym (length-take-le n roots f.fits) ∙ ap length f.all in
+        gives-some (take n powers) (length-take-le n powers fits ∙ count) (gives_same (λ i u. sym (get_or-take n powers i 0 (omega arith))) f.gives)
 
     listed : ListPass G
-    listed = roots-list (word powers) (f.yes one).1
+    listed = roots-list (word powers) f.gives
 
     pub found-ready : let x = given_of g.p g.D g.N g.rows g.lengths (take n roots) in
         FreshReady x (take n powers) × (length g.rows ≡ (g.D + 1) * g.N) × (length g.lengths ≡ g.D) × (length (take n powers) ≡ length (take n roots))

@@ -9,6 +9,7 @@ use native.Mathlib.Omega.{arith}
 use mathlib.Core.Path.{◌≡◌, sym, ◌∙◌, ap, subst}
 use mathlib.Core.Bool.{Bool}
 use mathlib.Core.List.{List, ◌++◌}
+use Rattle.std.specs.Prelude.{Option}
 use lib.ListN.{length, take, drop, length-append}
 use lib.Seq.{length-take-le, take_at}
 use Rattle.algebra.specs.Prime.{Prime}
@@ -85,5 +86,5 @@ module _ (g : Given) where
       powers-answer up found ps n f =
           found-answer g prime e column-long column-at column-below up h.polynomial.roots-below found ps n (subst (λ x. FoundPowers g.p g.roots x found ps) (column-lent zs s q) f)
 
-      pub roots-answer : (n : ℕ) (roots ps : List ℕ) → FoundRoots g.p (take (g.D + 1) s) n roots ps → FoundRoots g.p e n roots ps
+      pub roots-answer : (n : Option ℕ) (roots ps : List ℕ) → FoundRoots g.p (take (g.D + 1) s) n roots ps → FoundRoots g.p e n roots ps
       roots-answer n roots ps f = subst (λ x. FoundRoots g.p x n roots ps) (column-lent zs s q) f

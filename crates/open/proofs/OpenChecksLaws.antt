@@ -1,10 +1,10 @@
 -- The checks of open: their parts, and what each part that passes says.
 --   open-rows-split        the checks of open are the three parts, one after the other
 --   long_check, words_check, known_check, top_test, roots_check   refusals 5, 6, 21, 7 and 8, by name
---   unit-fails, unit-passes   what the loop over the top row finds
+--   unit-fails, unit-passes   what the test of the top row finds
 --   large-rows, large-roots, large-none   refusal 6, by the first large words
 --   PolynomialPass, polynomial-pass, polynomial-passes   what checks 1 to 6 let pass, and that they do
---   row-test               row D of the polynomial is the part of the rows that the loop looks at
+--   row-test               row D of the polynomial is the part of the rows that the test looks at
 --   known-first            21 comes before 7 and 8
 --   RowsPass, rows_pass, rows-passes   what checks 1 to 7, and 21, let pass, and that they do
 --   other-roots            and so they do with other roots
@@ -12,7 +12,7 @@
 --   other-rows, other-list  and so they do with other rows and known lengths, if these fit, the top row is right and all are below p
 --   whole-known, whole-rows, whole-list  which rows do that are all known
 -- Assumes nothing.
-use Prim.Native.Nat.{ℕ, zero, suc, ◌+◌, ◌-◌, ◌*◌, ◌≤◌, ◌<◌}
+use Prim.Native.Nat.{ℕ, ◌+◌, ◌-◌, ◌*◌, ◌≤◌, ◌<◌}
 use native.Mathlib.Nat.{mod-eq_of_lt}
 use native.Mathlib.Omega.{arith}
 use mathlib.Core.Path.{◌≡◌, refl, sym, ◌∙◌, ap, subst}
@@ -25,8 +25,7 @@ use lib.ListN.{length, take, drop, length-append}
 use lib.Seq.{get_or-take, get_or-drop}
 use Rattle.numbers.specs.Words.{word, tabulate, all_to, all, first_large, outside, low_word, rising}
 use Rattle.numbers.specs.internal.Facts.{AllBelow, Rising}
-use Rattle.numbers.specs.Refusals.{Check, check, judge, refusal, modulus_checks, unreduced, degree_check, width_check}
-use Rattle.numbers.specs.declared.refusal.Verdict.TheVariants.{Pass, Refuse}
+use Rattle.numbers.specs.Refusals.{Check, check, judge, refusal, modulus_checks, unreduced, degree_check, width_check, Pass, Refuse}
 use Rattle.numbers.proofs.WordsLaws.{length-tabulate, word-tabulate, below-append, large-first, large-second, large-le, append-below}
 use Rattle.numbers.proofs.TestsLaws.{eqs, all_to-false, all_to-ext, rising-passes, rising-are}
 use Rattle.numbers.proofs.RefusalsLaws.{Modulus, modulus-pass, modulus-fine, after-pass, pass-parts, pass-check, take-check, skip-check, none-judged, neither, reduced, below-reduced, inside, within}
@@ -150,10 +149,6 @@ module _ (s : List ℕ) (D N : ℕ) (long : length s ≡ (D + 1) * N) where
       let x = take (D * N + N - D * N) (drop (D * N) s) in
       ap (λ n. all_to n (λ t. eqb (word x t) (unit t))) top-long
       ∙ all_to-ext N _ _ (λ t l. ap (λ w. eqb w (unit t)) (let z : t < D * N + N - D * N = omega arith in rw (get_or-take, get_or-drop, zero-plus (D * N))))
-
-pub one-first : (s : List ℕ) → word s 0 ≡ 1 → (k : ℕ) → k < 1 → word s k ≡ unit k
-one-first s e zero l = e
-one-first s e (suc k) l = absurd (let z : ⊥ = omega arith in z)
 
 -- Y^1 with a top row of 0, a known length of 0 and no root
 known-first : judge (list_checks (given_of 2 1 1 (0 ∷ 0 ∷ []) (0 ∷ []) [])) ≡ Refuse (refusal 21 0)

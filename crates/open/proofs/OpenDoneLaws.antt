@@ -14,10 +14,7 @@ use borrow.Author.Tests.{ltb-false}
 use lib.ListN.{length, take, length-append}
 use lib.Seq.{take_at}
 use Rattle.numbers.specs.Words.{over}
-use Rattle.numbers.specs.Refusals.{Outcome, refused, outcome_after, written, room_check, Leaves}
-use Rattle.numbers.specs.declared.refusal.Refusal.{Refusal}
-use Rattle.numbers.specs.declared.refusal.Verdict.{Verdict}
-use Rattle.numbers.specs.declared.refusal.Verdict.TheVariants.{Pass, Refuse}
+use Rattle.numbers.specs.Refusals.{Outcome, refused, outcome_after, written, room_check, Leaves, Row, Verdict, Pass, Refuse}
 use Rattle.numbers.proofs.RefusalsLaws.{pass-check}
 use Rattle.sheet.specs.Sheet.{Given, whole_of}
 use Rattle.open.specs.Open.{powers_of, needed, OpenDone, OpenedBy}
@@ -43,7 +40,7 @@ pub finish-ready : (g : Given) → ListPass g → (l : List ℕ) → powers_of g
     → FreshReady g l × (length g.rows ≡ (g.D + 1) * g.N) × (length g.lengths ≡ g.D) × (length l ≡ length g.roots)
 finish-ready g h l e = (ready-fresh g l e (list-ready g h l e), h.rows.polynomial.long, h.rows.polynomial.lengths-long, found-count g l e)
 
-pub opened-refused : (v : Verdict) (g : Given) (old : List ℕ) (r : Refusal) (a : Outcome ℕ) → a ≡ refused r.number r.detail → v ≡ Refuse r → OpenedBy v g old a old
+pub opened-refused : (v : Verdict) (g : Given) (old : List ℕ) (r : Row) (a : Outcome ℕ) → a ≡ refused r.number r.detail → v ≡ Refuse r → OpenedBy v g old a old
 opened-refused v g old r a is e = record {
   answers = is ∙ sym (ap (λ v. outcome_after v (needed g)) e);
   leaves = subst (λ v. Leaves v (OpenDone g old old (needed g)) old old) (sym e) refl;

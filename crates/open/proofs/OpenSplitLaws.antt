@@ -7,8 +7,7 @@ use mathlib.Core.Path.{◌≡◌, ◌∙◌, ap}
 use mathlib.Core.Option.{none, some}
 use mathlib.Core.List.{List, [], ◌∷◌, ◌++◌}
 use borrow.Author.Tests.{le-ltb}
-use Rattle.numbers.specs.Refusals.{Check, check, judge, refusal, room_check}
-use Rattle.numbers.specs.declared.refusal.Verdict.TheVariants.{Pass, Refuse}
+use Rattle.numbers.specs.Refusals.{Check, check, judge, refusal, room_check, Pass, Refuse}
 use Rattle.numbers.proofs.RefusalsLaws.{after-pass, take-check, skip-check, none-judged}
 use Rattle.sheet.specs.Sheet.{Given}
 use Rattle.open.specs.Open.{powers_of, is_none, needed, split_checks}

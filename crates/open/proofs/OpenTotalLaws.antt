@@ -8,9 +8,7 @@ use mathlib.Core.Logic.{◌↔◌}
 use mathlib.Core.List.{List}
 use lib.ListN.{length}
 use Rattle.numbers.specs.Words.{over}
-use Rattle.numbers.specs.Refusals.{Outcome, outcome_after, written, Leaves}
-use Rattle.numbers.specs.declared.refusal.Verdict.{Verdict}
-use Rattle.numbers.specs.declared.refusal.Verdict.TheVariants.{Pass, Refuse}
+use Rattle.numbers.specs.Refusals.{Outcome, outcome_after, written, Leaves, Verdict, Pass, Refuse}
 use Rattle.numbers.specs.One.{OneOutcome}
 use Rattle.sheet.specs.Sheet.{Given}
 use Rattle.open.specs.Open.{needed, open_verdict, OpenDone, OpenedBy, Opened}

@@ -18,8 +18,7 @@ use lib.Dec.{eqb}
 use lib.ListN.{length, take, drop, take-append-drop, get_or-append}
 use lib.Seq.{take-length, drop_at}
 use Rattle.numbers.specs.Words.{word, over}
-use Rattle.numbers.specs.Refusals.{Check, check, judge, room_check}
-use Rattle.numbers.specs.declared.refusal.Verdict.TheVariants.{Pass}
+use Rattle.numbers.specs.Refusals.{Check, check, judge, room_check, Pass}
 use Rattle.numbers.proofs.WordsLaws.{length_over}
 use Rattle.numbers.proofs.TestsLaws.{all_to-ext}
 use Rattle.numbers.proofs.RefusalsLaws.{pass-parts, pass-check}

@@ -22,8 +22,7 @@ use Rattle.algebra.proofs.SumsLaws.{sum_to-count}
 use Rattle.numbers.specs.Words.{word, tabulate, over, least}
 use Rattle.numbers.proofs.WordsLaws.{Writing, writing-part, length_over, over-whole}
 use Rattle.numbers.specs.Limits.{largest_degree, largest_width}
-use Rattle.numbers.specs.Refusals.{refusal, Outcome, accepted, refused, outcome_after, written, room_check}
-use Rattle.numbers.specs.declared.refusal.Verdict.TheVariants.{Pass}
+use Rattle.numbers.specs.Refusals.{refusal, Outcome, accepted, refused, outcome_after, written, room_check, Pass}
 use Rattle.numbers.proofs.RefusalsLaws.{take-check, answer-refused}
 use Rattle.rows.specs.Rows.{rows_of, table}
 use Rattle.rows.proofs.RowsLaws.{rows-below, length-table, table-ext, table-rows}

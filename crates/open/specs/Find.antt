@@ -10,8 +10,7 @@
 use Rattle.std.specs.Prelude.{ℕ, zero, suc, ◌≤◌, ◌<◌, ◌≡◌, List, ◌++◌, length}
 use Rattle.algebra.specs.Sums.{sum_to}
 use Rattle.numbers.specs.Words.{word, tabulate}
-use Rattle.numbers.specs.Refusals.{Check, judge, Outcome}
-use Rattle.numbers.specs.declared.refusal.Verdict.{Verdict}
+use Rattle.numbers.specs.Refusals.{Check, judge, Outcome, Verdict}
 use Rattle.hensel.specs.Factors.{split}
 use Rattle.sheet.specs.Sheet.{Given, given_of, given-polynomial}
 use Rattle.rootfinding.specs.Roots.{all_roots}

@@ -14,8 +14,7 @@
 use Rattle.std.specs.Prelude.{ℕ, zero, suc, ◌+◌, ◌-◌, ◌*◌, ◌≡◌, Bool, true, false, not, ◌||◌, List, [], ◌∷◌, ◌++◌, map, eqb, length, drop}
 use Rattle.std.proofs.Math.Option.{Option, none, some}
 use Rattle.numbers.specs.Words.{word, all_to, first_large, outside, low_word, rising, each}
-use Rattle.numbers.specs.Refusals.{Check, check, judge, Outcome, outcome_after, modulus_checks, unreduced, degree_check, width_check, room_check, Leaves}
-use Rattle.numbers.specs.declared.refusal.Verdict.{Verdict}
+use Rattle.numbers.specs.Refusals.{Check, check, judge, Outcome, outcome_after, modulus_checks, unreduced, degree_check, width_check, room_check, Leaves, Verdict}
 use Rattle.series.specs.Known.{rows_known, unknown_check}
 use Rattle.rows.specs.Rows.{unit}
 use Rattle.hensel.specs.Factors.{split}

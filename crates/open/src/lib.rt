@@ -8,7 +8,8 @@ ghost use Rattle.open.specs.Open.{Opened};
 ghost use Rattle.open.specs.Find.{Found};
 
 use numbers::limits::MOST_ROOTS;
-use numbers::refusal::{Answer, Verdict, refused};
+use numbers::refusal::Refusal;
+use opening::Lent;
 
 mod opening; // the checks, and the powers of the roots by repeated division
 mod writing; // the words of a fresh sheet
@@ -22,32 +23,54 @@ pub fn open(
     lengths: &[u32],
     roots: &[u32],
     out: &mut [u32],
-) -> Answer
+) -> Result<u32, Refusal>
     ensures { Opened (given_of p d n rows.now lengths.now roots.now) out.old (outcome result) out.new }
 {
-    if let Verdict::Refuse(r) = opening::check_given(p, d, n, rows, lengths, roots) {
-        return Answer::Refused(r);
-    }
+    let lent = Lent {
+        p,
+        d,
+        n,
+        rows,
+        lengths,
+        roots,
+    };
+    lent.check_list()?;
     let count = roots.len();
     let mut powers = [0u32; MOST_ROOTS];
-    if opening::powers_of(p, d, n, rows, roots, &mut powers[..count]) {
-        return writing::finish(p, d, n, rows, lengths, roots, &powers[..count], out);
+    if lent.powers_of(&mut powers[..count]) {
+        return lent.finish(&powers[..count], out);
     }
-    refused(9, 0)
+    Err(Refusal::Unsplit)
 }
 
 // The sheet that open would write with the list of all roots of the polynomial at X = 0, which it finds, over the first T words of `out`. The answer is T.
-pub fn find(p: u32, d: u32, n: u32, rows: &[u32], lengths: &[u32], out: &mut [u32]) -> Answer
+pub fn find(
+    p: u32,
+    d: u32,
+    n: u32,
+    rows: &[u32],
+    lengths: &[u32],
+    out: &mut [u32],
+) -> Result<u32, Refusal>
     ensures { Found (given_of p d n rows.now lengths.now []) out.old (outcome result) out.new }
 {
-    if let Verdict::Refuse(r) = opening::check_rows(p, d, n, rows, lengths, &rows[..0]) {
-        return Answer::Refused(r);
-    }
+    let lent = Lent {
+        p,
+        d,
+        n,
+        rows,
+        lengths,
+        roots: &rows[..0],
+    };
+    lent.check_rows()?;
     let mut roots = [0u32; MOST_ROOTS];
     let mut powers = [0u32; MOST_ROOTS];
-    let r = opening::roots_of(p, d, n, rows, &mut roots, &mut powers);
-    if r < 1 {
-        return refused(9, 0);
-    }
-    writing::finish(p, d, n, rows, lengths, &roots[..r], &powers[..r], out)
+    let Some(r) = lent.roots_of(&mut roots, &mut powers) else {
+        return Err(Refusal::Unsplit);
+    };
+    let found = Lent {
+        roots: &roots[..r],
+        ..lent
+    };
+    found.finish(&powers[..r], out)
 }

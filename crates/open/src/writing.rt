@@ -8,16 +8,17 @@ ghost use Rattle.numbers.specs.Limits.{largest_degree, most_rows, largest_width}
 ghost use Rattle.rows.specs.Rows.{table};
 ghost use Rattle.hensel.specs.Factors.{root_power, flat};
 ghost use Rattle.layout.specs.Layout.{roots_from};
-ghost use Rattle.sheet.specs.Sheet.{given_of};
 ghost use Rattle.sheet.specs.internal.Content.{size};
+ghost use Rattle.open.specs.internal.Opening.{given};
 ghost use Rattle.open.specs.internal.Writing.{front_words, degree_of, factor_table, fresh_content, fresh_words, FreshReady, Finished};
 
+use crate::opening::Lent;
 use columns::copy;
 use layout::LENGTHS_FROM;
 use layout::lengths::least_length;
 use layout::writing::{write_header, write_roots};
 use numbers::limits::MOST_ROWS;
-use numbers::refusal::{Answer, refused};
+use numbers::refusal::Refusal;
 use powers::root_power;
 
 // Rows with this first column, and 0 past it.
@@ -25,12 +26,10 @@ fn spread(column: &[u32], n: usize, out: &mut [u32])
     requires { (1 ≤ n) × (n ≤ largest_width) × (length column.now ≤ most_rows) × (length out.old ≡ length column.now * n) }
     ensures { out.new ≡ table (length column.now) n (flat (word column.now)) }
 {
-    let mut j = 0;
-    while j < column.len() {
+    for j in 0..column.len() {
         let a = j * n;
         let e = a + n;
         columns::start_row(column[j], &mut out[a..e]);
-        j += 1;
     }
 }
 
@@ -52,72 +51,62 @@ fn write_factors(p: u32, n: usize, roots: &[u32], powers: &[u32], out: &mut [u32
     ensures { out.new ≡ table (degree_of powers.now) n (factor_table p roots.now powers.now) }
 {
     let mut at = 0;
-    let mut i = 0;
-    while i < roots.len() {
-        let m = powers[i] as usize;
+    for (root, power) in roots.iter().zip(powers) {
+        let m = *power as usize;
         let e = at + m * n;
-        write_factor(p, n, roots[i], m, &mut out[at..e]);
+        write_factor(p, n, *root, m, &mut out[at..e]);
         at = e;
-        i += 1;
     }
 }
 
-// The header and the known lengths.
-fn write_front(p: u32, d: u32, n: u32, r: usize, lengths: &[u32], out: &mut [u32])
-    requires { (d ≤ largest_degree) × (n ≤ largest_width) × (r ≤ largest_degree) × (length lengths.now ≡ d) × (roots_from d ≤ length out.old) }
-    ensures { out.new ≡ over (front_words p d n r lengths.now) out.old }
-{
-    let first = layout::roots_from(d as usize);
-    write_header(p, d, n, 1, r, least_length(n, lengths), out);
-    copy(lengths, &mut out[LENGTHS_FROM..first]);
-}
-
-// The sheet of what is given, whose powers are found, over the first words of out.
-fn write_sheet(
-    p: u32,
-    d: u32,
-    n: u32,
-    rows: &[u32],
-    lengths: &[u32],
-    roots: &[u32],
-    powers: &[u32],
-    total: usize,
-    out: &mut [u32],
-)
-    requires { FreshReady (given_of p d n rows.now lengths.now roots.now) powers.now × (length rows.now ≡ (d + 1) * n) × (length lengths.now ≡ d)
-        × (length powers.now ≡ length roots.now) × (total ≡ size (fresh_content (given_of p d n rows.now lengths.now roots.now) powers.now)) × (total ≤ length out.old) }
-    ensures { out.new ≡ over (fresh_words (given_of p d n rows.now lengths.now roots.now) powers.now) out.old }
-{
-    let width = n as usize;
-    let r = roots.len();
-    let first = layout::roots_from(d as usize);
-    let polynomial = layout::polynomial_from(d as usize, r);
-    let factors = layout::factors_from(d as usize, width, r);
-    write_front(p, d, n, r, lengths, out);
-    write_roots(roots, powers, &mut out[first..polynomial]);
-    copy(rows, &mut out[polynomial..factors]);
-    write_factors(p, width, roots, powers, &mut out[factors..total]);
-}
-
-// That sheet, where `out` has room for it; else refusal 10.
-pub fn finish(
-    p: u32,
-    d: u32,
-    n: u32,
-    rows: &[u32],
-    lengths: &[u32],
-    roots: &[u32],
-    powers: &[u32],
-    out: &mut [u32],
-) -> Answer
-    requires { FreshReady (given_of p d n rows.now lengths.now roots.now) powers.now × (length rows.now ≡ (d + 1) * n) × (length lengths.now ≡ d)
-        × (length powers.now ≡ length roots.now) }
-    ensures { Finished (given_of p d n rows.now lengths.now roots.now) powers.now out.old (outcome result) out.new }
-{
-    let total = layout::total_of(d as usize, n as usize, roots.len());
-    if out.len() < total {
-        return refused(10, total as u32);
+impl<'a> Lent<'a> {
+    // The header, for r roots, and the known lengths.
+    fn write_front(self, r: usize, out: &mut [u32])
+        requires { (self.d ≤ largest_degree) × (self.n ≤ largest_width) × (r ≤ largest_degree) × (length self.lengths.now ≡ self.d) × (roots_from self.d ≤ length out.old) }
+        ensures { out.new ≡ over (front_words self.entry.p self.entry.d self.entry.n r self.entry.lengths.now) out.old }
+    {
+        let first = layout::roots_from(self.d as usize);
+        write_header(
+            self.p,
+            self.d,
+            self.n,
+            1,
+            r,
+            least_length(self.n, self.lengths),
+            out,
+        );
+        copy(self.lengths, &mut out[LENGTHS_FROM..first]);
     }
-    write_sheet(p, d, n, rows, lengths, roots, powers, total, out);
-    Answer::Done(total as u32)
+
+    // The sheet of what is given, whose powers are found, over the first words of out.
+    fn write_sheet(self, powers: &[u32], total: usize, out: &mut [u32])
+        requires { FreshReady (given self) powers.now × (length self.rows.now ≡ (self.d + 1) * self.n) × (length self.lengths.now ≡ self.d)
+            × (length powers.now ≡ length self.roots.now) × (total ≡ size (fresh_content (given self) powers.now)) × (total ≤ length out.old) }
+        ensures { out.new ≡ over (fresh_words (given self.entry) powers.now) out.old }
+    {
+        let d = self.d as usize;
+        let width = self.n as usize;
+        let r = self.roots.len();
+        let first = layout::roots_from(d);
+        let polynomial = layout::polynomial_from(d, r);
+        let factors = layout::factors_from(d, width, r);
+        self.write_front(r, out);
+        write_roots(self.roots, powers, &mut out[first..polynomial]);
+        copy(self.rows, &mut out[polynomial..factors]);
+        write_factors(self.p, width, self.roots, powers, &mut out[factors..total]);
+    }
+
+    // That sheet, where `out` has room for it; else refusal 10.
+    pub fn finish(self, powers: &[u32], out: &mut [u32]) -> Result<u32, Refusal>
+        requires { FreshReady (given self) powers.now × (length self.rows.now ≡ (self.d + 1) * self.n) × (length self.lengths.now ≡ self.d)
+            × (length powers.now ≡ length self.roots.now) }
+        ensures { Finished (given self.entry) powers.now out.old (outcome result) out.new }
+    {
+        let total = layout::total_of(self.d as usize, self.n as usize, self.roots.len());
+        if out.len() < total {
+            return Err(Refusal::Short(total as u32));
+        }
+        self.write_sheet(powers, total, out);
+        Ok(total as u32)
+    }
 }

@@ -22,8 +22,7 @@ use Rattle.algebra.proofs.FpLaws.{p-pos}
 use Rattle.algebra.proofs.BridgeLaws.{same-rem}
 use Rattle.numbers.specs.Words.{word, first_large, tabulate, up_to}
 use Rattle.numbers.specs.internal.Facts.{AllBelow}
-use Rattle.numbers.specs.Refusals.{judge}
-use Rattle.numbers.specs.declared.refusal.Verdict.TheVariants.{Pass}
+use Rattle.numbers.specs.Refusals.{judge, Pass}
 use Rattle.numbers.proofs.WordsLaws.{lt-or-ge, large-le, length-tabulate, word-tabulate, tabulate-below, up-low, up-high, least-le, least_at, least-from}
 use Rattle.numbers.proofs.TestsLaws.{rising-are}
 use Rattle.series.specs.Known.{KnownTo}

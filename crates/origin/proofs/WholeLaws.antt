@@ -16,8 +16,7 @@ use Rattle.algebra.specs.Sums.{sum_to}
 use Rattle.algebra.proofs.FpLaws.{p-pos}
 use Rattle.numbers.specs.Words.{word}
 use Rattle.numbers.specs.internal.Facts.{AllBelow}
-use Rattle.numbers.specs.Refusals.{judge}
-use Rattle.numbers.specs.declared.refusal.Verdict.TheVariants.{Pass}
+use Rattle.numbers.specs.Refusals.{judge, Pass}
 use Rattle.numbers.proofs.WordsLaws.{lt-or-ge, length-tabulate, word-tabulate, word-part}
 use Rattle.rows.specs.Rows.{table, shift_checks, shifted, row_shift, monic}
 use Rattle.rows.proofs.RowsLaws.{rows-below, table-ext, table-rows, table_below}

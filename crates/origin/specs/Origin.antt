@@ -10,8 +10,7 @@
 -- Assumes nothing.
 use Rattle.std.specs.Prelude.{ℕ, ◌+◌, ◌-◌, ◌*◌, ◌%◌, ◌<◌, ◌≡◌, true, List, ◌++◌, length}
 use Rattle.numbers.specs.Words.{word, rising, tabulate, up_to}
-use Rattle.numbers.specs.Refusals.{judge}
-use Rattle.numbers.specs.declared.refusal.Verdict.TheVariants.{Pass}
+use Rattle.numbers.specs.Refusals.{judge, Pass}
 use Rattle.rows.specs.Rows.{table, shift_checks, row_shift, unit}
 use Rattle.layout.specs.Layout.{modulus, width, count, root, power, factor_part}
 use Rattle.sheet.specs.Sheet.{Given, given_of, given-reach, given-polynomial, Holds}

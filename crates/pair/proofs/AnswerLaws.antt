@@ -17,8 +17,7 @@ use lib.Seq.{drop_at, get_or-take, length-take-le}
 use Rattle.algebra.specs.Prime.{Prime}
 use Rattle.numbers.specs.Words.{word}
 use Rattle.numbers.specs.internal.Facts.{Decides}
-use Rattle.numbers.specs.Refusals.{Check, check, judge, operation_checks, beyond_check, behind_check}
-use Rattle.numbers.specs.declared.refusal.Verdict.TheVariants.{Pass}
+use Rattle.numbers.specs.Refusals.{Check, check, judge, operation_checks, beyond_check, behind_check, Pass}
 use Rattle.numbers.proofs.TestsLaws.{decided-test}
 use Rattle.numbers.proofs.RefusalsLaws.{pass-parts, pass-check, after-pass, skip-check, none-judged, inside, within, Operation, operation-pass}
 use Rattle.rows.proofs.RowsLaws.{row_fits, by_row}

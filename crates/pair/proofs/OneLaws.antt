@@ -15,9 +15,7 @@ use lib.ListN.{length, drop, take-append-drop}
 use lib.Seq.{get_or-drop}
 use Rattle.algebra.specs.Prime.{Prime}
 use Rattle.numbers.specs.Words.{word}
-use Rattle.numbers.specs.Refusals.{judge, Outcome, accepted, outcome_after, operation_checks, Leaves}
-use Rattle.numbers.specs.declared.refusal.Verdict.{Verdict}
-use Rattle.numbers.specs.declared.refusal.Verdict.TheVariants.{Pass, Refuse}
+use Rattle.numbers.specs.Refusals.{judge, Outcome, accepted, outcome_after, operation_checks, Leaves, Verdict, Pass, Refuse}
 use Rattle.numbers.specs.One.{One, OneOutcome}
 use Rattle.numbers.proofs.OneLaws.{one_of, verdict-one}
 use Rattle.numbers.proofs.RefusalsLaws.{accepted-pass}

@@ -11,8 +11,7 @@ use borrow.Author.Tests.{lt-leb, le-leb, eq-eqb, ne_eqb}
 use Rattle.algebra.specs.Sums.{sum_to}
 use Rattle.numbers.specs.Words.{all, all_to, first_where, first_nonzero, first_large}
 use Rattle.numbers.specs.Divisor.{least_divisor}
-use Rattle.numbers.specs.Refusals.{judge, refusal}
-use Rattle.numbers.specs.declared.refusal.Verdict.TheVariants.{Refuse}
+use Rattle.numbers.specs.Refusals.{judge, refusal, Refuse}
 use Rattle.numbers.proofs.WordsLaws.{lt-or-ge, true-false}
 use Rattle.rows.specs.Rows.{rows_of, rows_below, mul, monic}
 use Rattle.pair.specs.Pair.{order_of}

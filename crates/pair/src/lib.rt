@@ -3,7 +3,7 @@
 #![tactic(auto)]
 
 ghost use Rattle.std.specs.Prelude.{◌≡◌, ℕ, ◌+◌, ◌-◌, ◌*◌, ◌≤◌, ◌<◌, length, eqb};
-ghost use Rattle.numbers.specs.Refusals.{judge, outcome};
+ghost use Rattle.numbers.specs.Refusals.{judge, outcome, verdict};
 ghost use Rattle.numbers.specs.Words.{word, choose};
 ghost use Rattle.numbers.specs.internal.Facts.{Decides};
 ghost use Rattle.rows.specs.Rows.{rows_of};
@@ -16,7 +16,7 @@ ghost use Rattle.pair.specs.internal.Lifting.{PairGiven, PairStart, leading_colu
 use columns::{clear, load_column, put_columns};
 use numbers::judge::{check_operation, outside};
 use numbers::limits::MOST_ROWS;
-use numbers::refusal::{Answer, Verdict, refuse};
+use numbers::refusal::Refusal;
 use series::kernel::first_nonzero;
 use split::node::split_by;
 
@@ -37,10 +37,7 @@ fn order_of(f: &[u32], n: usize, rows: usize) -> usize
 fn first_column(h: usize) -> usize
     ensures { result ≡ choose (eqb h 0) 1 h }
 {
-    if h == 0 {
-        return 1;
-    }
-    h
+    h.max(1)
 }
 
 // The rows' columns h to w − 1 are split: P begins with Y^d, whose roots are 0, and A with column 0 of the rows from d on. a0 is for scratch: a word for
@@ -66,134 +63,144 @@ fn split_rows(
     split_by(p, roots, a0, n, h, w, rows);
 }
 
-// The pair to w terms, in rows that hold it to h, or for h = 0 anything: columns h to w − 1 of f are put there, and split.
-fn lift(p: u32, f: &[u32], deg: usize, n: usize, d: usize, h: usize, w: usize, rows: &mut [u32])
-    requires { PairGiven p deg n f.now d × (length rows.old ≡ (deg + 1) * n) × (1 ≤ h → PairWords p deg n f.now h rows.old) × (h ≤ w) × (1 ≤ w) × (w ≤ n) }
-    ensures long { length rows.new ≡ length rows.old }
-    ensures words { PairWords p deg n f.now w rows.new }
-{
-    if h == w {
-        return;
-    }
-    let count = deg + 1;
-    clear(n, w, count, rows);
-    put_columns(f, n, h, w, count, rows);
-    if d == 0 {
-        return; // P is 1
-    }
-    let k = count - d + 1;
-    let roots = [0u32; MOST_ROWS];
-    let mut a0 = [0u32; MOST_ROWS];
-    split_rows(p, d, n, first_column(h), w, &roots[..d], &mut a0[..k], rows);
-}
-
 // Whether two parts of the same length have the same words.
 fn same_words(a: &[u32], b: &[u32]) -> bool
     requires { length b.now ≡ length a.now }
     ensures { Decides result ((i : ℕ) → i < length a.now → word a.now i ≡ word b.now i) }
 {
-    let mut i = 0;
-    while i < a.len() {
-        if a[i] != b[i] {
-            return false;
-        }
-        i += 1;
-    }
-    true
+    a == b
 }
 
-// Whether the words of s are those of the pair to h terms, which is worked out anew, in rows.
-fn is_worked(
+// A polynomial that is not 0 at X = 0, with its order: the first row that is not 0 there.
+#[derive(Clone, Copy)]
+struct Ordered<'a> {
     p: u32,
-    f: &[u32],
-    deg: usize,
-    n: usize,
-    d: usize,
-    h: usize,
-    s: &[u32],
-    rows: &mut [u32],
-) -> bool
-    requires { PairGiven p deg n f.now d × (length s.now ≡ (deg + 1) * n) × (length rows.old ≡ (deg + 1) * n) × (1 ≤ h) × (h ≤ n) }
-    ensures { Decides result (PairWords p deg n f.now h s.now) }
-{
-    lift(p, f, deg, n, d, 0, h, rows);
-    same_words(rows, s)
+    f: &'a [u32],
+    degree: usize,
+    width: usize,
+    order: usize,
+    ghost given: { PairGiven p degree width f.now order },
 }
 
-// Whether the first words of s are those of the pair to h terms.
-fn is_pair(p: u32, f: &[u32], deg: usize, n: usize, d: usize, h: usize, s: &[u32]) -> bool
-    requires { PairGiven p deg n f.now d × ((deg + 1) * n ≤ length s.now) × (1 ≤ h) × (h ≤ n) }
-    ensures { result ≡ pair_test p deg n f.now h s.now }
-{
-    let end = (deg + 1) * n;
-    if end <= FEW_WORDS {
-        let mut few = [0u32; FEW_WORDS];
-        return is_worked(p, f, deg, n, d, h, &s[..end], &mut few[..end]);
+impl<'a> Ordered<'a> {
+    // The pair to w terms, in rows that hold it to h, or for h = 0 anything: columns h to w − 1 of f are put there, and split.
+    fn lift(self, h: usize, w: usize, rows: &mut [u32])
+        requires { (length rows.old ≡ (self.degree + 1) * self.width) × (1 ≤ h → PairWords self.p self.degree self.width self.f.now h rows.old) × (h ≤ w) × (1 ≤ w) × (w ≤ self.width) }
+        ensures long { length rows.new ≡ length rows.old }
+        ensures words { PairWords self.entry.p self.entry.degree self.entry.width self.entry.f.now w rows.new }
+    {
+        if h == w {
+            return;
+        }
+        let n = self.width;
+        let count = self.degree + 1;
+        clear(n, w, count, rows);
+        put_columns(self.f, n, h, w, count, rows);
+        let d = self.order;
+        if d == 0 {
+            return; // P is 1
+        }
+        let k = count - d + 1;
+        let roots = [0u32; MOST_ROWS];
+        let mut a0 = [0u32; MOST_ROWS];
+        split_rows(
+            self.p,
+            d,
+            n,
+            first_column(h),
+            w,
+            &roots[..d],
+            &mut a0[..k],
+            rows,
+        );
     }
-    let mut rows = [0u32; MOST_WORDS];
-    is_worked(p, f, deg, n, d, h, &s[..end], &mut rows[..end])
-}
 
-// Nothing is continued, or the first words of s are those of the pair to h terms.
-fn held(p: u32, f: &[u32], deg: usize, n: usize, d: usize, h: usize, s: &[u32]) -> bool
-    requires { PairGiven p deg n f.now d × ((deg + 1) * n ≤ length s.now) }
-    ensures { result ≡ held p deg n f.now h s.now }
-{
-    if h == 0 {
-        return true;
+    // Whether the words of s are those of the pair to h terms, which is worked out anew, in rows.
+    fn is_worked(self, h: usize, s: &[u32], rows: &mut [u32]) -> bool
+        requires { (length s.now ≡ (self.degree + 1) * self.width) × (length rows.old ≡ (self.degree + 1) * self.width) × (1 ≤ h) × (h ≤ self.width) }
+        ensures { Decides result (PairWords self.entry.p self.entry.degree self.entry.width self.entry.f.now h s.now) }
+    {
+        self.lift(0, h, rows);
+        same_words(rows, s)
     }
-    if n < h {
-        return false;
+
+    // Whether the first words of s are those of the pair to h terms.
+    fn is_pair(self, h: usize, s: &[u32]) -> bool
+        requires { ((self.degree + 1) * self.width ≤ length s.now) × (1 ≤ h) × (h ≤ self.width) }
+        ensures { result ≡ pair_test self.entry.p self.entry.degree self.entry.width self.entry.f.now h s.now }
+    {
+        let end = (self.degree + 1) * self.width;
+        if end <= FEW_WORDS {
+            let mut few = [0u32; FEW_WORDS];
+            return self.is_worked(h, &s[..end], &mut few[..end]);
+        }
+        let mut rows = [0u32; MOST_WORDS];
+        self.is_worked(h, &s[..end], &mut rows[..end])
     }
-    is_pair(p, f, deg, n, d, h, s)
+
+    // Nothing is continued, or the first words of s are those of the pair to h terms.
+    fn is_held(self, h: usize, s: &[u32]) -> bool
+        requires { (self.degree + 1) * self.width ≤ length s.now }
+        ensures { result ≡ held self.entry.p self.entry.degree self.entry.width self.entry.f.now h s.now }
+    {
+        h == 0 || (h <= self.width && self.is_pair(h, s))
+    }
 }
 
 // All refusals, in order.
-fn check_pair(p: u32, d: u32, n: u32, f: &[u32], h: u32, w: u32, out: &[u32]) -> Verdict
-    ensures { result ≡ judge (pair_checks p d n f.now h w out.now) }
+fn check_pair(p: u32, d: u32, n: u32, f: &[u32], h: u32, w: u32, out: &[u32]) -> Result<(), Refusal>
+    ensures { verdict result ≡ judge (pair_checks p d n f.now h w out.now) }
 {
     let rows = d as usize + 1;
-    let v = check_operation(p, n, f, rows, &f[..0], 0, rows, out.len());
-    if let Verdict::Refuse(_) = v {
-        return v;
-    }
+    check_operation(p, n, f, rows, &f[..0], 0, rows, out.len())?;
     let order = order_of(f, n as usize, rows);
     if rows <= order {
-        return refuse(11, 0);
+        return Err(Refusal::Flat);
     }
-    if !held(p, f, d as usize, n as usize, order, h as usize, out) {
-        return refuse(13, 0);
+    let given = Ordered {
+        p,
+        f,
+        degree: d as usize,
+        width: n as usize,
+        order,
+    };
+    if !given.is_held(h as usize, out) {
+        return Err(Refusal::Spoiled);
     }
     if outside(1, n, w) {
-        return refuse(14, 0);
+        return Err(Refusal::Beyond);
     }
     if w < h {
-        return refuse(15, 0);
+        return Err(Refusal::Behind);
     }
-    Verdict::Pass
+    Ok(())
 }
 
 // The pair of f to w terms, from its first h terms in out; h = 0 starts, whatever out holds. The answer is d, the order of f.
 // The contract allows one outcome only, and where h is 1 or more no other columns than h..w − 1 to change: `paired-one` and `paired-keeps` in proofs/OneLaws.
-pub fn pair(p: u32, d: u32, n: u32, f: &[u32], h: u32, w: u32, out: &mut [u32]) -> Answer
+pub fn pair(
+    p: u32,
+    d: u32,
+    n: u32,
+    f: &[u32],
+    h: u32,
+    w: u32,
+    out: &mut [u32],
+) -> Result<u32, Refusal>
     ensures { Paired p d n f.now h w out.old (outcome result) out.new }
 {
-    if let Verdict::Refuse(r) = check_pair(p, d, n, f, h, w, out) {
-        return Answer::Refused(r);
-    }
-    let deg = d as usize;
+    check_pair(p, d, n, f, h, w, out)?;
+    let degree = d as usize;
     let width = n as usize;
-    let order = order_of(f, width, deg + 1);
-    let end = (deg + 1) * width;
-    lift(
+    let order = order_of(f, width, degree + 1);
+    let given = Ordered {
         p,
         f,
-        deg,
+        degree,
         width,
         order,
-        h as usize,
-        w as usize,
-        &mut out[..end],
-    );
-    Answer::Done(order as u32)
+    };
+    let end = (degree + 1) * width;
+    given.lift(h as usize, w as usize, &mut out[..end]);
+    Ok(order as u32)
 }

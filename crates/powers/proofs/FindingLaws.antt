@@ -209,9 +209,6 @@ module _ (p : ℕ) (roots e₀ : List ℕ) (i at : ℕ) (e powers : List ℕ) (h
   searching-ends end found f = finding-ends h.prime roots h.reduced h.up e₀ i at e powers h.finding end found f
 
   module _ (l : i < length roots) (b : ℕ) (e' : List ℕ) (d : DividedOut p (word roots i) at e b e') where
-    pub divided-long : (length e' ≡ length e₀) × (b < length e₀)
-    divided-long = let z = h.finding.long in let y = d.divided.high in (d.divided.long ∙ z, omega arith)
-
     pub searching-stops : b ≤ at → (ps : List ℕ) → FoundPowers p roots e₀ false ps
     searching-stops = finding-stops h.prime roots h.reduced h.up e₀ i at e powers h.finding l b e' d
 

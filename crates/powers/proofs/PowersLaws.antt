@@ -1,7 +1,6 @@
 -- The powers of the roots by repeated division.
---   value-starts, value-turn, value-whole   Horner's scheme from the top, one word at a time
---   divided-none, divided-step              one division more
---   divided-out                             where the value is not 0, or the degree is 0, no more
+--   value-starts, value-turn   Horner's scheme from the top, one word at a time
+--   divided-none, divided-step   one division more
 -- Assumes nothing.
 use Prim.Native.Nat.{ℕ, zero, suc, ◌+◌, ◌-◌, ◌*◌, ◌%◌, ◌≤◌, ◌<◌}
 use native.Mathlib.Nat.{mod-eq_of_lt}
@@ -23,7 +22,7 @@ use Rattle.numbers.proofs.WordsLaws.{word-tabulate, from, from_is, drop-below, t
 use Rattle.columns.specs.internal.Column.{horner_word, horner_words}
 use Rattle.columns.proofs.ColumnLaws.{horner-word-suc, horner-word-none, horner-words-at, horner-below, length-horner, put_from, put-from}
 use Rattle.columns.proofs.SolveLaws.{pol-div}
-use Rattle.powers.specs.internal.Powers.{over_field, Divided, DividedOut}
+use Rattle.powers.specs.internal.Powers.{over_field, Divided}
 
 pub value-starts : (p c : ℕ) (e : List ℕ) → 0 ≡ horner_word p c (length e - length e) (word e) (length e)
 value-starts p c e = sym (ap (λ n. horner_word p c n (word e) (length e)) (let z : length e - length e ≡ 0 = omega arith in z) ∙ horner-word-none p c (word e) (length e))
@@ -35,10 +34,6 @@ value-turn p c e (suc j) sum l g h =
     subst (λ k. (word e k + c * sum) % p ≡ horner_word p c (length e - k) (word e) k) (let z : j ≡ suc j - 1 = omega arith in z)
     (ap (λ x. (word e j + c * x) % p) h ∙ sym (horner-word-suc p c (length e - suc j) (word e) j)
     ∙ ap (λ n. horner_word p c n (word e) j) (let z : suc (length e - suc j) ≡ length e - j = omega arith in z))
-
-pub value-whole : (p c : ℕ) (e : List ℕ) (j : ℕ) → j ≡ 0 → horner_word p c (length e - j) (word e) j ≡ horner_word p c (length e) (word e) 0
-value-whole p c e j z =
-    ap (λ j. horner_word p c (length e - j) (word e) j) z ∙ ap (λ n. horner_word p c n (word e) 0) (let y : length e - 0 ≡ length e = omega arith in y)
 
 -- the last word stays
 pub horner-last : (p c : ℕ) (x : List ℕ) → AllBelow p x → (t : ℕ) → suc t ≡ length x → word (horner_words p c x) t ≡ word x t
@@ -131,10 +126,3 @@ module _ (p c at : ℕ) (old : List ℕ) (a : ℕ) (e : List ℕ) (h : Divided p
           h.product pos ∙ ap (R.mul P) d ∙ swap R P L r ∙ sym (pow-suc-mul R L (a - at) r)
           ∙ ap (λ n. R.mul (lin_pow K (rem p pos c) n) r) (sym m) ∙ ap (λ z. R.mul (lin_pow K (rem p pos c) (a + 1 - at)) (over_field p pos z)) (sym new-drop);
     }
-
-  -- where the value is not 0, or the degree is 0
-  pub divided-out : (length old - 1 ≤ a) → DividedOut p c at old a e
-  divided-out l = record { divided = h; out = λ m _. let z : ⊥ = omega arith in z }
-
-  pub divided-stop : (horner_word p c (length (from e a)) (word (from e a)) 0 ≡ 0 → ⊥) → DividedOut p c at old a e
-  divided-stop ne = record { divided = h; out = λ _ z. ne (subst (λ s. horner_word p c (length s) (word s) 0 ≡ 0) (sym (from_is e a)) z) }

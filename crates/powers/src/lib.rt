@@ -20,9 +20,7 @@ pub fn value(p: u32, c: u32, e: &[u32]) -> u32
     ensures { result ≡ horner_word p c (length e.now) (word e.now) 0 }
 {
     let mut sum = 0u64;
-    let mut j = e.len();
-    while 0 < j {
-        j -= 1;
+    for j in (0..e.len()).rev() {
         sum = (e[j] as u64 + (c as u64) * sum) % (p as u64);
     }
     sum as u32
@@ -34,15 +32,13 @@ fn divide_out(p: u32, c: u32, at: usize, e: &mut [u32]) -> usize
     ensures { DividedOut p c at e.old result e.new }
 {
     let last = e.len() - 1;
-    let mut a = at;
-    while a < last {
+    for a in at..last {
         if value(p, c, &e[a..]) != 0 {
-            break;
+            return a;
         }
         columns::horner(p, c, &mut e[a..]);
-        a += 1;
     }
-    a
+    last
 }
 
 // Whether the polynomial in e, whose last word is 1, is a product of powers, all 1 or more, of the roots, which rise; and these powers.
@@ -52,15 +48,13 @@ pub fn find_powers(p: u32, roots: &[u32], e: &mut [u32], powers: &mut [u32]) -> 
     ensures { FoundPowers p roots.now e.old result powers.new }
 {
     let mut at = 0;
-    let mut i = 0;
-    while i < roots.len() {
+    for i in 0..roots.len() {
         let b = divide_out(p, roots[i], at, e);
         if b <= at {
             return false;
         }
         powers[i] = (b - at) as u32;
         at = b;
-        i += 1;
     }
     at + 1 == e.len()
 }

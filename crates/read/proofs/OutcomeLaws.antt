@@ -8,13 +8,11 @@ use native.Mathlib.Omega.{arith}
 use borrow.Author.Tests.{lt-ltb, le-ltb, ltb-false}
 use lib.Dec.{ltb}
 use lib.ListN.{length}
+use Rattle.std.specs.Prelude.{Some, None}
 use Rattle.numbers.specs.Limits.{largest_width}
 use Rattle.numbers.specs.One.{OneOutcome}
 use Rattle.numbers.specs.Words.{word, over, outside, tabulate, choose}
-use Rattle.numbers.specs.Refusals.{Check, check, judge, refusal, Outcome, accepted, refused, outcome_after, written, modulus_checks, width_check, room_check}
-use Rattle.numbers.specs.declared.refusal.Refusal.{Refusal}
-use Rattle.numbers.specs.declared.refusal.Verdict.{Verdict}
-use Rattle.numbers.specs.declared.refusal.Verdict.TheVariants.{Pass, Refuse}
+use Rattle.numbers.specs.Refusals.{Check, check, judge, refusal, Outcome, accepted, refused, outcome_after, written, modulus_checks, width_check, room_check, Row, Verdict, Pass, Refuse}
 use Rattle.numbers.proofs.WordsLaws.{true-false, length-tabulate, word-tabulate}
 use Rattle.numbers.proofs.RefusalsLaws.{after-pass, after-refuse, take-check, skip-check, pass-check, pass-parts, none-judged, neither, inside, answer-refused, answer-done, Modulus, modulus-pass}
 use Rattle.rows.specs.Rows.{table, rows_of}
@@ -23,16 +21,13 @@ use Rattle.formula.specs.Formula.{Sum, Reading, reads, unreadable}
 use Rattle.formula.specs.Limits.{longest_text, deepest_brackets}
 use Rattle.read.specs.Value.{sum_value, degree, sum_high}
 use Rattle.formula.specs.internal.Scan.{bottom, lead, scan}
-use Rattle.formula.specs.internal.Survey.{is_read, deepest, survey_of, survey_at}
-use Rattle.formula.specs.declared.Surveyed.{Surveyed}
-use Rattle.formula.specs.declared.Surveyed.TheVariants.{Unreadable, Deep, Fine}
+use Rattle.formula.specs.internal.Survey.{is_read, deepest, survey_of, survey_at, not_read, too_deep}
 use Rattle.formula.proofs.CompleteLaws.{one-reading}
 use Rattle.formula.proofs.FoundLaws.{scan-derives}
 use Rattle.formula.proofs.SoundLaws.{scan-sound}
 use Rattle.formula.proofs.DepthLaws.{depth_is}
 use Rattle.read.specs.Read.{no_reading, reading_depth, read_degree, read_words, reading_checks, text_checks, read_checks, ReadOf}
 use Rattle.read.specs.declared.Part.{Part}
-use Rattle.read.specs.declared.Part.TheVariants.{Value, Nothing}
 use Rattle.read.specs.internal.Values.{Stored}
 use Rattle.read.specs.internal.Parts.{SumPart}
 use Rattle.read.proofs.ByteLaws.{whole_sum}
@@ -66,20 +61,15 @@ depth-of s e =
     ap reading_depth f.is ∙ sym (depth_is f.sum s (scan-sound f.sum s f.is))
 
 -- what the survey says is what checks 17 and 18 come to
-abbrev pub says : Surveyed → Verdict
-says Unreadable = Refuse (refusal 17 0)
-says Deep = Refuse (refusal 18 0)
-says Fine = Pass
-
-survey-judged : (s : List ℕ) → judge (reading_checks (length s) (found s)) ≡ says (survey_at s 0)
+survey-judged : (s : List ℕ) → judge (reading_checks (length s) (found s)) ≡ survey_at s 0
 unfolding survey_at survey_of
-survey-judged s = go (ltb longest_text (length s)) refl (is_read (found s)) refl (ltb deepest_brackets (deepest 0 0 s)) refl ∙ ap says (sym whole)
+survey-judged s = go (ltb longest_text (length s)) refl (is_read (found s)) refl (ltb deepest_brackets (deepest 0 0 s)) refl ∙ sym whole
   where
     whole : survey_at s 0 ≡ survey_of s
-    whole = ap (λ (b : Bool). choose b Unreadable (survey_of s)) (le-ltb (length s) 0 (omega arith))
+    whole = ap (λ (b : Bool). choose b not_read (survey_of s)) (le-ltb (length s) 0 (omega arith))
 
     go : (a : Bool) → ltb longest_text (length s) ≡ a → (b : Bool) → is_read (found s) ≡ b → (c : Bool) → ltb deepest_brackets (deepest 0 0 s) ≡ c
-        → judge (reading_checks (length s) (found s)) ≡ says (choose a Unreadable (choose b (choose c Deep Fine) Unreadable))
+        → judge (reading_checks (length s) (found s)) ≡ choose a not_read (choose b (choose c too_deep Pass) not_read)
     go true x b y c z = take-check (check 17 (ltb longest_text (length s) || no_reading (found s)) 0) (check 18 (ltb deepest_brackets (reading_depth (found s))) 0 ∷ []) (or_left (ltb longest_text (length s)) (no_reading (found s)) x)
     go false x false y c z = take-check (check 17 (ltb longest_text (length s) || no_reading (found s)) 0) (check 18 (ltb deepest_brackets (reading_depth (found s))) 0 ∷ []) (or_right (ltb longest_text (length s)) (no_reading (found s)) (no-reading (found s) y))
     go false x true y true z =
@@ -90,14 +80,14 @@ survey-judged s = go (ltb longest_text (length s)) refl (is_read (found s)) refl
         ∙ skip-check (check 18 (ltb deepest_brackets (reading_depth (found s))) 0) [] (ap (ltb deepest_brackets) (depth-of s y) ∙ z) ∙ none-judged
 
 module _ (p N : ℕ) (s : List ℕ) where
-  pub modulus-refused : (r : Refusal) → judge (modulus_checks p) ≡ Refuse r → judge (text_checks p N (length s) (found s)) ≡ Refuse r
+  pub modulus-refused : (r : Row) → judge (modulus_checks p) ≡ Refuse r → judge (text_checks p N (length s) (found s)) ≡ Refuse r
   modulus-refused r e = after-refuse (modulus_checks p) (width_check N ∷ reading_checks (length s) (found s)) r e
 
   pub width-refused : judge (modulus_checks p) ≡ Pass → outside 1 largest_width N ≡ true → judge (text_checks p N (length s) (found s)) ≡ Refuse (refusal 4 0)
   width-refused m o = after-pass (modulus_checks p) (width_check N ∷ reading_checks (length s) (found s)) m ∙ take-check (width_check N) _ o
 
-  pub text-judged : judge (modulus_checks p) ≡ Pass → outside 1 largest_width N ≡ false → (v : Surveyed) → v ≡ survey_at s 0 → judge (text_checks p N (length s) (found s)) ≡ says v
-  text-judged m o v e = after-pass (modulus_checks p) (width_check N ∷ reading_checks (length s) (found s)) m ∙ skip-check (width_check N) _ o ∙ survey-judged s ∙ ap says (sym e)
+  pub text-judged : judge (modulus_checks p) ≡ Pass → outside 1 largest_width N ≡ false → judge (text_checks p N (length s) (found s)) ≡ survey_at s 0
+  text-judged m o = after-pass (modulus_checks p) (width_check N ∷ reading_checks (length s) (found s)) m ∙ skip-check (width_check N) _ o ∙ survey-judged s
 
   -- what a pass says
   pub record Passed : Type 0 where
@@ -118,7 +108,7 @@ module _ (p N : ℕ) (s : List ℕ) where
       record { modulus = modulus-pass p m.0; low = n.0; high = n.1; short = ltb-false longest_text (length s) b.0; sum = f.sum; is = f.is }
 
   module _ (old : List ℕ) where
-    pub read-refused : (r : Refusal) → judge (text_checks p N (length s) (found s)) ≡ Refuse r → ReadOf p N s old (refused r.number r.detail) old
+    pub read-refused : (r : Row) → judge (text_checks p N (length s) (found s)) ≡ Refuse r → ReadOf p N s old (refused r.number r.detail) old
     read-refused r e =
         let v : judge (read_checks p N (length s) (found s) (length old)) ≡ Refuse r = after-refuse (text_checks p N (length s) (found s)) _ r e in
         let a = answer-refused r (read_degree p N (found s)) (over (read_words p N (found s)) old) old v in
@@ -178,21 +168,19 @@ pub record Known (p N : ℕ) (s w : List ℕ) (rows : ℕ) : Type 0 where
   pub some : 1 ≤ rows
 
 module _ (p N : ℕ) (s : List ℕ) (pass : judge (text_checks p N (length s) (found s)) ≡ Pass) where
-  pub read-nothing : (old w : List ℕ) (r : Part) → r ≡ Nothing → SumPart p N s lead 0 r w → ReadOf p N s old (refused 19 0) old
-  read-nothing old w r e h =
+  pub read-nothing : (old w : List ℕ) → SumPart p N s lead 0 None w → ReadOf p N s old (refused 19 0) old
+  read-nothing old w h =
       let g = text-passed p N s pass in
-      high_read p N s old pass g.sum g.is ((subst (λ (x : Part). SumPart p N s lead 0 x w) e h).run bottom g.sum g.is)
+      high_read p N s old pass g.sum g.is (h bottom g.sum g.is)
 
-  pub read_known : (next rows : ℕ) (w : List ℕ) (r : Part) → r ≡ Value next rows → SumPart p N s lead 0 r w → Known p N s w rows
-  read_known next rows w r e part =
+  pub read_known : (w : List ℕ) (r : Part) → SumPart p N s lead 0 (Some r) w → Known p N s w r.rows
+  read_known w r (k, ended) =
       let g = text-passed p N s pass in
-      let h = subst (λ (x : Part). SumPart p N s lead 0 x w) e part in
-      let k = h.run in
-      let q : k.tree ≡ g.sum = whole_sum s next k.tree g.sum k.went.fits k.solid k.ends (no_sign s next rows h.ended) (sym (k.passes bottom) ∙ g.is) in
+      let q : k.tree ≡ g.sum = whole_sum s r.at k.tree g.sum k.went.fits k.solid k.ends (no_sign s r.at ended) (sym (k.passes bottom) ∙ g.is) in
       record {
         sum = g.sum;
         is = g.is;
-        stored = subst (λ (f : Sum). Stored p N (sum_value p f) w rows) q k.stored;
+        stored = subst (λ (f : Sum). Stored p N (sum_value p f) w r.rows) q k.stored;
         low = subst (λ (f : Sum). sum_high p N f ≡ false) q k.low;
         some = stored_some k.stored;
       }

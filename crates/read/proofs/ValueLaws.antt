@@ -1,8 +1,8 @@
 -- Values in slices: loops that go over the words, the rows that count, and what is stored.
 -- Assumes nothing.
 use mathlib.Core.Path.{◌≡◌, refl, sym, ap, ◌∙◌, subst}
-use mathlib.Core.Bool.{Bool, true, false, ◌||◌}
-use mathlib.Core.List.{List}
+use mathlib.Core.Bool.{Bool, true, false, ◌||◌, ◌&&◌}
+use mathlib.Core.List.{List, [], ◌∷◌, ◌++◌}
 use mathlib.Core.Logic.{⊎_elim, ◌⊎◌, inl, inr}
 use Prim.Native.Nat.{ℕ, zero, suc, ◌+◌, ◌-◌, ◌*◌, ◌%◌, ◌≤◌, ◌<◌, max}
 use native.Mathlib.Nat.{eq-or-lt_of_le, mod-lt, mod-eq_of_lt, mul-le-mul, mod_self}
@@ -10,20 +10,22 @@ use native.Mathlib.Numerals.{add-one}
 use native.Mathlib.Omega.{arith}
 use borrow.Author.Tests.{lt-ltb, le-ltb, eq-eqb, ne_eqb, eqb-true}
 use lib.Dec.{eqb}
-use lib.ListN.{length, take, drop, set, length-set, get_or-append, get_or-eq_default, replicate, get_or-replicate, length-replicate}
-use lib.Seq.{get_or-set_same, get_or-set_other, get_or-take, length-take-le}
-use Rattle.numbers.specs.Words.{word, choose, over}
-use Rattle.numbers.proofs.WordsLaws.{lt-or-ge, true-false, over-past}
-use Rattle.numbers.proofs.RefusalsLaws.{few_words}
-use Rattle.numbers.proofs.TestsLaws.{all_to-at, at-all_to, all_to-false}
+use lib.ListN.{length, take, drop, set, length-append, length-drop, get_or-append, get_or-eq_default, replicate, get_or-replicate, length-replicate}
+use lib.Seq.{get_or-set_same, get_or-set_other, get_or-take, get_or-drop, length-take-le, take-suc}
+use Rattle.std.specs.List.{list_all}
+use Rattle.std.specs.Prelude.{Some}
+use Rattle.numbers.specs.Words.{word, choose, over, tabulate, all_to}
+use Rattle.numbers.proofs.WordsLaws.{lt-or-ge, true-false, over-past, length-tabulate}
+use Rattle.numbers.proofs.TestsLaws.{all_to-at, at-all_to, all_to-false, all_to-front}
 use Rattle.rows.specs.Rows.{rows_of, table, mul}
 use Rattle.rows.proofs.RowsLaws.{row_fits, rows-below, rows-past, word-table, length-table}
 use Rattle.rows.proofs.MulLaws.{mul-lt, mul-ext, mul-past}
 use Rattle.formula.specs.Formula.{Sign, plus, minus, Lead, none, sign}
 use Rattle.read.specs.Value.{Poly, single, constant, the_x, the_y, plus_of, minus_of, times_of, power_of, signed, leading, zero_row, top_row, degree, high, powers_high}
-use Rattle.numbers.specs.internal.Facts.{AllBelow}
-use Rattle.read.specs.internal.Places.{is_minus, code_of}
-use Rattle.read.specs.internal.Values.{Stored, Kept, Raised, TopRows}
+use Rattle.read.specs.declared.Sign.{Sign as Mark}
+use Rattle.read.specs.declared.Sign.TheVariants.{Plus as plus-mark, Minus as minus-mark}
+use Rattle.read.specs.internal.Places.{is_minus, sign_for}
+use Rattle.read.specs.internal.Values.{Stored, Raised, TopRows}
 
 pub both_false : (a b : Bool) → a ≡ false → b ≡ false → a || b ≡ false
 both_false a b e f = rw e f
@@ -41,18 +43,36 @@ pub record Mapped (g : ℕ → ℕ) (q : ℕ) (old new : List ℕ) : Type 0 wher
   pub rest : (k : ℕ) → q ≤ k → word new k ≡ word old k
   pub long : length new ≡ length old
 
-pub mapped-none : (g : ℕ → ℕ) (s : List ℕ) → Mapped g 0 s s
-mapped-none g s = record { done = λ k l. absurd (let z : ⊥ = omega arith in z); rest = λ k l. refl; long = refl }
+-- the first `size` words are filled with 0
+pub mapped_fill : (size : ℕ) (old zeros : List ℕ) → zeros ≡ replicate (length (take size old)) 0 → size ≤ length old → Mapped (λ q. 0) size old (zeros ++ drop size old)
+mapped_fill size old zeros e l =
+    let n : length zeros ≡ size = ap length e ∙ length-replicate _ 0 ∙ length-take-le size old l in
+    let z : zeros ≡ replicate size 0 = e ∙ ap (λ (k : ℕ). replicate k 0) (length-take-le size old l) in
+    record {
+      done = λ k h. get_or-append zeros (drop size old) 0 k (omega arith) ∙ ap (λ (x : List ℕ). word x k) z ∙ get_or-replicate size k 0 0 h;
+      rest = λ k h. ap (λ (i : ℕ). word (zeros ++ drop i old) k) (sym n) ∙ over-past zeros old k (omega arith);
+      long = length-append zeros (drop size old) ∙ (let d = length-drop size old in omega arith);
+    }
 
-pub mapped_next : (g : ℕ → ℕ) (q : ℕ) (old new : List ℕ) (v : ℕ) → Mapped g q old new → q < length old → v ≡ g q → Mapped g (q + 1) old (set new q v)
-mapped_next g q old new v m l e = record {
-  done = λ k h. ⊎_elim
-      (λ (x : k ≡ q). ap (λ (i : ℕ). word (set new q v) i) x ∙ get_or-set_same new q v 0 (let z = m.long in omega arith) ∙ e ∙ ap g (sym x))
-      (λ (x : k < q). get_or-set_other new q k v 0 (λ z. let y : ⊥ = omega arith in y) ∙ m.done k x)
-      (eq-or-lt_of_le (let z : k ≤ q = omega arith in z));
-  rest = λ k h. get_or-set_other new q k v 0 (λ z. let y : ⊥ = omega arith in y) ∙ m.rest k (omega arith);
-  long = length-set new q v ∙ m.long;
-}
+-- the first n words are those that a copy takes
+pub words-taken : (n : ℕ) (s : List ℕ) → n ≤ length s → take n s ≡ tabulate n (word s)
+unfolding tabulate
+words-taken zero s h = refl
+words-taken (suc n) s h = take-suc s n 0 h ∙ ap (λ (x : List ℕ). x ++ (word s n ∷ [])) (words-taken n s (omega arith))
+
+pub over-taken : (n : ℕ) (s old new : List ℕ) → new ≡ take n s → n ≤ length s → new ++ drop n old ≡ over (tabulate n (word s)) old
+over-taken n s old new e l =
+    ap (λ (x : List ℕ). x ++ drop n old) (e ∙ words-taken n s l) ∙ ap (λ (k : ℕ). tabulate n (word s) ++ drop k old) (sym (length-tabulate n (word s)))
+
+-- words that all are 0
+all_words : (test : ℕ → Bool) (s : List ℕ) → list_all test s ≡ all_to (length s) (λ i. test (word s i))
+unfolding all_to
+all_words test [] = refl
+all_words test (x ∷ s) = both (test x) (list_all test s) ∙ ap (λ (b : Bool). choose (test x) b false) (all_words test s) ∙ sym (all_to-front (length s) (λ i. test (word (x ∷ s) i)))
+  where
+    both : (a b : Bool) → a && b ≡ choose a b false
+    both true b = refl
+    both false b = refl
 
 -- places of a row
 pub place-fits : (j n t : ℕ) → j < 33 → t < n → j * n + t < 33 * n
@@ -143,13 +163,7 @@ stored-y p n w two some h =
       empty = λ j t l. single-off 1 0 (1 % p) j t (λ y. let z = y.0 in let x : ⊥ = omega arith in x);
     }
 
-pub mapped_at : (g : ℕ → ℕ) (q r : ℕ) (old new : List ℕ) → q ≡ r → Mapped g q old new → Mapped g r old new
-mapped_at g q r old new e m = subst (λ (x : ℕ). Mapped g x old new) e m
-
 -- rows that count
-pub top-room : (r total n : ℕ) (w : List ℕ) → 1 ≤ r → r ≤ total → total * n ≤ length w → (r - 1) * n + n ≤ length w
-top-room r total n w h l g = let z = row_fits (r - 1) total n (omega arith) in omega arith
-
 pub top-less : (n total r : ℕ) (w : List ℕ) → 1 < r → r ≤ total → zero_row n (λ t. word w ((r - 1) * n + t)) ≡ true
     → ((j t : ℕ) → r ≤ j → j < total → t < n → word w (j * n + t) ≡ 0) → (j t : ℕ) → r - 1 ≤ j → j < total → t < n → word w (j * n + t) ≡ 0
 top-less n total r w h l z rest j t a b d =
@@ -173,6 +187,16 @@ row_same n a b h g = go (zero_row n a) refl (zero_row n b) refl
     go true e false f = true-false (sym (zero_row_lem n b (λ t l. h t l (row_zero n a e t l))) ∙ f)
     go false e true f = true-false (sym (zero_row_lem n a (λ t l. g t l (row_zero n b f t l))) ∙ e)
     go false e false f = e ∙ sym f
+
+pub row-all : (s : List ℕ) (from n : ℕ) (b : Bool) → b ≡ list_all (λ x. eqb x 0) (take (from + n - from) (drop from s)) → from + n ≤ length s → b ≡ zero_row n (λ t. word s (from + t))
+row-all s from n b e l =
+    let xs = take (from + n - from) (drop from s) in
+    let m : length xs ≡ n = length-take-le _ _ (let d = length-drop from s in omega arith) ∙ (let q : from + n - from ≡ n = omega arith in q) in
+    e ∙ all_words (λ x. eqb x 0) xs ∙ ap (λ (k : ℕ). zero_row k (word xs)) m
+    ∙ row_same n (word xs) (λ t. word s (from + t)) (λ t h z. sym (at t h) ∙ z) (λ t h z. at t h ∙ z)
+  where
+    at : (t : ℕ) → t < n → word (take (from + n - from) (drop from s)) t ≡ word s (from + t)
+    at t h = get_or-take (from + n - from) (drop from s) t 0 (omega arith) ∙ get_or-drop from s t 0
 
 top-is : (n : ℕ) (a : ℕ → ℕ → ℕ) (b d : ℕ) → ((j : ℕ) → d < j → j ≤ b → zero_row n (a j) ≡ true) → (1 ≤ d → zero_row n (a d) ≡ false) → (1 ≤ d → d ≤ b) → top_row n a b ≡ d
 unfolding top_row
@@ -338,23 +362,18 @@ module _ (p n : ℕ) (f h : Poly) (a b : ℕ) (old g new : List ℕ) (two : 2 �
       }
 
 -- a sign by its code
-pub signed-minus : (p n : ℕ) (f h : Poly) (w : List ℕ) (r code : ℕ) (σ : Sign) → code ≡ code_of σ → code ≡ 2 → Stored p n (minus_of p f h) w r → Stored p n (signed p σ f h) w r
-signed-minus p n f h w r code plus e z k = absurd (let y : ⊥ = omega arith in y)
-signed-minus p n f h w r code minus e z k = k
+pub signed-minus : (p n : ℕ) (f h : Poly) (w : List ℕ) (r : ℕ) (m : Mark) (σ : Sign) → m ≡ sign_for σ → m ≡ minus-mark → Stored p n (minus_of p f h) w r → Stored p n (signed p σ f h) w r
+signed-minus p n f h w r m plus e z k = absurd (let y : ⊥ = cc in y)
+signed-minus p n f h w r m minus e z k = k
 
-pub signed-plus : (p n : ℕ) (f h : Poly) (w : List ℕ) (r code : ℕ) (σ : Sign) → code ≡ code_of σ → (code ≡ 2 → ⊥) → Stored p n (plus_of p f h) w r → Stored p n (signed p σ f h) w r
-signed-plus p n f h w r code plus e z k = k
-signed-plus p n f h w r code minus e z k = absurd (z e)
+pub signed-plus : (p n : ℕ) (f h : Poly) (w : List ℕ) (r : ℕ) (m : Mark) (σ : Sign) → m ≡ sign_for σ → m ≡ plus-mark → Stored p n (plus_of p f h) w r → Stored p n (signed p σ f h) w r
+signed-plus p n f h w r m plus e z k = k
+signed-plus p n f h w r m minus e z k = absurd (let y : ⊥ = cc in y)
 
 pub leading-minus : (p n : ℕ) (f : Poly) (w : List ℕ) (r : ℕ) (l : Lead) (m : Bool) → m ≡ is_minus l → m ≡ true → Stored p n (minus_of p (constant p 0) f) w r → Stored p n (leading p l f) w r
 leading-minus p n f w r none m e z k = true-false (sym z ∙ e)
 leading-minus p n f w r (sign plus) m e z k = true-false (sym z ∙ e)
 leading-minus p n f w r (sign minus) m e z k = k
-
-pub leading-plus : (p n : ℕ) (f : Poly) (w : List ℕ) (r : ℕ) (l : Lead) (m : Bool) → m ≡ is_minus l → m ≡ false → Stored p n f w r → Stored p n (leading p l f) w r
-leading-plus p n f w r none m e z k = k
-leading-plus p n f w r (sign plus) m e z k = k
-leading-plus p n f w r (sign minus) m e z k = true-false (sym e ∙ z)
 
 -- products
 module _ (p n rows grows : ℕ) (f h : Poly) (old g A B P₀ P : List ℕ) (two : 2 ≤ p) (some : 1 ≤ n) (fs : 1 ≤ rows) (gs : 1 ≤ grows)
@@ -406,49 +425,17 @@ module _ (p n rows grows : ℕ) (f h : Poly) (old g A B P₀ P : List ℕ) (two 
     count-is : count ≡ degree n (times_of p f h) + 1
     count-is = degree-top n (times_of p f h) P (rows + grows - 1) count words_product empty-product past-product top
 
-    pub product_high : (w : List ℕ) → 33 < count → Kept p n (times_of p f h) w 0
-    product_high w l = record { too-high = λ e. (let z = count-is in lt-ltb 32 (degree n (times_of p f h)) (omega arith)); stored = λ e. absurd (e refl) }
+    pub product_high : 33 < count → high n (times_of p f h) ≡ true
+    product_high l = let z = count-is in lt-ltb 32 (degree n (times_of p f h)) (omega arith)
 
-    pub product-kept : (w : List ℕ) → count ≤ 33 → ((q : ℕ) → q < 33 * n → word w q ≡ word P q) → Kept p n (times_of p f h) w count
+    pub product-kept : (w : List ℕ) → count ≤ 33 → ((q : ℕ) → q < 33 * n → word w q ≡ word P q) → Stored p n (times_of p f h) w count
     product-kept w l e = record {
-      too-high = λ z. absurd (let y = top.some in let x : ⊥ = omega arith in x);
-      stored = λ z. record {
-        words = λ j t u v. e (j * n + t) (place-fits j n t u v) ∙ words-all j t u v;
-        rows_are = count-is;
-        low = l;
-        below = λ j t. mul-lt p f.row h.row j t (omega arith);
-        empty = empty-product;
-      };
+      words = λ j t u v. e (j * n + t) (place-fits j n t u v) ∙ words-all j t u v;
+      rows_are = count-is;
+      low = l;
+      below = λ j t. mul-lt p f.row h.row j t (omega arith);
+      empty = empty-product;
     }
-
-pub taken-below : (p size : ℕ) (C w : List ℕ) → 2 ≤ p → ((q : ℕ) → q < size → word C q ≡ word w q % p) → size ≤ length C → AllBelow p (take size C)
-taken-below p size C w two e l k h =
-    let z = length-take-le size C l in
-    let m = mod-lt (word w k) {m = p} (omega arith) in
-    rw (get_or-take size C k 0 (omega arith), e k (omega arith)) m
-
-pub prefix-long : (size : ℕ) (C : List ℕ) → size ≤ length C → length (take size C) ≡ size
-prefix-long size C l = length-take-le size C l
-
-pub room-rows : (rows n : ℕ) → rows ≤ 33 → rows * n ≤ 33 * n
-room-rows rows n h = mul-le-mul {n₂ = 33} {m₂ = n} h (omega arith)
-
--- the room of two values and of their product
-pub record Rooms (rows grows n : ℕ) : Type 0 where
-  pub first : rows * n ≤ 8448
-  pub first_rows : rows * n ≤ 33 * n
-  pub second : grows * n ≤ 8448
-  pub second-rows : grows * n ≤ 33 * n
-  pub product : (rows + grows - 1) * n ≤ 16640
-
-pub rooms : (rows grows n : ℕ) → rows ≤ 33 → grows ≤ 33 → n ≤ 256 → Rooms rows grows n
-rooms rows grows n a b c = record {
-  first = few_words rows n a c;
-  first_rows = room-rows rows n a;
-  second = few_words grows n b c;
-  second-rows = room-rows grows n b;
-  product = (let z : (rows + grows - 1) * n ≤ 65 * 256 = mul-le-mul {n₂ = 65} {m₂ = 256} (omega arith) c in omega arith);
-}
 
 -- an array of zeros
 pub zero-array : (m k : ℕ) → word (replicate m 0) k ≡ 0
@@ -480,20 +467,15 @@ powers-later p n f i (suc d) h =
     subst (λ (x : ℕ). powers_high p n f x ≡ true) (let e : suc (i + d) ≡ i + suc d = omega arith in e)
     (ap (λ (b : Bool). b || high n (power_of p f (suc (i + d)))) (powers-later p n f i d h))
 
-module _ (p n : ℕ) (f : Poly) (i : ℕ) (w : List ℕ) (count : ℕ) (r : PowerRun p n f i w count) (c : ℕ) (v : List ℕ) (k : Kept p n (times_of p (power_of p f i) f) v c) where
-  pub power-next : (c ≡ 0 → ⊥) → PowerRun p n f (i + 1) v c
+module _ (p n : ℕ) (f : Poly) (i : ℕ) (w : List ℕ) (count : ℕ) (r : PowerRun p n f i w count) where
+  pub power-next : (c : ℕ) (v : List ℕ) → Stored p n (times_of p (power_of p f i) f) v c → PowerRun p n f (i + 1) v c
   unfolding power_of powers_high
-  power-next z = subst (λ (x : ℕ). PowerRun p n f x v c) (sym (add-one i)) (record { stored = k.stored z; low = both_false _ _ r.low (stored_low (k.stored z)) })
+  power-next c v k = subst (λ (x : ℕ). PowerRun p n f x v c) (sym (add-one i)) (record { stored = k; low = both_false _ _ r.low (stored_low k) })
 
-  pub power-high : (m : ℕ) (u : List ℕ) → i < m → c ≡ 0 → Raised p n f m u 0
+  pub power-high : (m : ℕ) → i < m → high n (times_of p (power_of p f i) f) ≡ true → powers_high p n f m ≡ true
   unfolding power_of powers_high
-  power-high m u l z = record {
-    too-high = λ e. subst (λ (x : ℕ). powers_high p n f x ≡ true) (let q : suc i + (m - suc i) ≡ m = omega arith in q)
-        (powers-later p n f (suc i) (m - suc i) (ap (λ (b : Bool). b || high n (times_of p (power_of p f i) f)) r.low ∙ k.too-high z));
-    stored = λ e. absurd (e refl);
-    low = λ e. absurd (e refl);
-  }
+  power-high m l k = subst (λ (x : ℕ). powers_high p n f x ≡ true) (let q : suc i + (m - suc i) ≡ m = omega arith in q)
+      (powers-later p n f (suc i) (m - suc i) (ap (λ (b : Bool). b || high n (times_of p (power_of p f i) f)) r.low ∙ k))
 
-pub power-all : (p n : ℕ) (f : Poly) (i m : ℕ) (w : List ℕ) (count : ℕ) → i ≡ m → 1 ≤ count → PowerRun p n f i w count → Raised p n f m w count
-power-all p n f i m w count e l r =
-    subst (λ (x : ℕ). Raised p n f x w count) e (record { too-high = λ z. absurd (let y : ⊥ = omega arith in y); stored = λ z. r.stored; low = λ z. r.low })
+pub power-all : (p n : ℕ) (f : Poly) (i m : ℕ) (w : List ℕ) (count : ℕ) → i ≡ m → PowerRun p n f i w count → Raised p n f m w (Some count)
+power-all p n f i m w count e r = subst (λ (x : ℕ). Raised p n f x w (Some count)) e (r.stored, r.low)

@@ -6,11 +6,18 @@ ghost use Rattle.formula.specs.Limits.{longest_text};
 
 use formula::bytes::{CLOSE, MINUS, OPEN, PLUS, STAR};
 
-// Whether a byte that stands in no bracket ends a summand, or a factor.
-fn ends(b: u8, sums: bool) -> bool {
+// What is looked through: the summands of a sum, or the factors of a term.
+#[derive(Clone, Copy, PartialEq, Eq)]
+pub enum Parts {
+    Summands,
+    Factors,
+}
+
+// Whether a byte that stands in no bracket ends such a part.
+fn ends(b: u8, parts: Parts) -> bool {
     match b {
         PLUS | MINUS | CLOSE => true,
-        STAR => !sums,
+        STAR => parts == Parts::Factors,
         _ => false,
     }
 }
@@ -20,68 +27,41 @@ fn level(b: u8, depth: usize) -> usize
     requires { depth ≤ longest_text }
     ensures { result ≤ depth + 1 }
 {
-    if b == OPEN {
-        return depth + 1;
+    match b {
+        OPEN => depth + 1,
+        CLOSE => depth.saturating_sub(1),
+        _ => depth,
     }
-    if b == CLOSE {
-        if 0 < depth {
-            return depth - 1;
-        }
-    }
-    depth
 }
 
-// Where the summand or factor ends that begins at a place.
-fn end_of(text: &[u8], at: usize, sums: bool) -> usize
+// Where the part ends that begins at a place.
+fn end_of(text: &[u8], at: usize, parts: Parts) -> usize
     requires { (at ≤ length text.now) × (length text.now ≤ longest_text) }
     ensures { (at ≤ result) × (result ≤ length text.now) }
 {
     let mut depth = 0;
-    let mut q = at;
-    while q < text.len() {
-        if depth == 0 {
-            if ends(text[q], sums) {
-                return q;
-            }
+    for q in at..text.len() {
+        if depth == 0 && ends(text[q], parts) {
+            return q;
         }
         depth = level(text[q], depth);
-        q += 1;
     }
-    q
+    text.len()
 }
 
-// Whether another summand or factor follows.
-fn parted(text: &[u8], at: usize, sums: bool) -> bool
+// Whether another such part follows.
+fn parted(text: &[u8], at: usize, parts: Parts) -> bool
     ensures { result ≡ true → at < length text.now }
 {
-    if at < text.len() {
-        if sums {
-            return text[at] != CLOSE;
+    at < text.len()
+        && match parts {
+            Parts::Summands => text[at] != CLOSE,
+            Parts::Factors => text[at] == STAR,
         }
-        return text[at] == STAR;
-    }
-    false
 }
 
-// The longer of two lengths, and where the longer of two parts begins.
-fn larger(size: usize, long: usize) -> usize {
-    if size < long {
-        return long;
-    }
-    size
-}
-
-fn better(best: usize, size: usize, from: usize, long: usize) -> usize
-    ensures { best ≤ from → (best ≤ result) × (result ≤ from) }
-{
-    if size < long {
-        return from;
-    }
-    best
-}
-
-// Where the longest summand begins, of the sum whose first term stands at a place; or the longest factor of the term there.
-pub fn longest(text: &[u8], at: usize, sums: bool) -> usize
+// Where the longest part begins, of the sum or the term whose first one stands at a place.
+pub fn longest(text: &[u8], at: usize, parts: Parts) -> usize
     requires { (at ≤ length text.now) × (length text.now ≤ longest_text) }
     ensures { (at ≤ result) × (result ≤ length text.now) }
 {
@@ -89,13 +69,14 @@ pub fn longest(text: &[u8], at: usize, sums: bool) -> usize
     let mut size = 0;
     let mut from = at;
     loop {
-        let end = end_of(text, from, sums);
-        best = better(best, size, from, end - from);
-        size = larger(size, end - from);
-        if parted(text, end, sums) {
-            from = end + 1;
-        } else {
+        let end = end_of(text, from, parts);
+        if size < end - from {
+            best = from;
+            size = end - from;
+        }
+        if !parted(text, end, parts) {
             return best;
         }
+        from = end + 1;
     }
 }

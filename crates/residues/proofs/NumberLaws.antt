@@ -5,10 +5,7 @@ use mathlib.Core.List.{List, [], ◌∷◌}
 use Prim.Native.Nat.{ℕ, ◌<◌}
 use native.Mathlib.Omega.{arith}
 use Rattle.numbers.specs.internal.Facts.{AllBelow}
-use Rattle.numbers.specs.Refusals.{judge, modulus_checks, reduced_check, Outcome, accepted, refused, outcome_after}
-use Rattle.numbers.specs.declared.refusal.Refusal.{Refusal}
-use Rattle.numbers.specs.declared.refusal.Verdict.{Verdict}
-use Rattle.numbers.specs.declared.refusal.Verdict.TheVariants.{Pass, Refuse}
+use Rattle.numbers.specs.Refusals.{judge, modulus_checks, reduced_check, Outcome, accepted, refused, outcome_after, Row, Verdict, Pass, Refuse}
 use Rattle.residues.specs.Number.{operand_checks}
 use Rattle.residues.specs.declared.Number.{Number}
 use Rattle.numbers.proofs.RefusalsLaws.{Modulus, modulus-pass, pass-parts, pass-check, reduced}
@@ -28,7 +25,7 @@ two-pass p a b e =
     let o = operands-pass p (a ∷ b ∷ []) e in
     record { modulus = o.0; left = o.1 0 (omega arith); right = o.1 1 (omega arith) }
 
-pub refused-is : {v : Verdict} (r : Refusal) (x : Number) → v ≡ Refuse r → ◌≡◌ {A = Outcome Number} (refused r.number r.detail) (outcome_after v x)
+pub refused-is : {v : Verdict} (r : Row) (x : Number) → v ≡ Refuse r → ◌≡◌ {A = Outcome Number} (refused r.number r.detail) (outcome_after v x)
 refused-is r x e = rw e refl
 
 pub accepted-is : {v : Verdict} (x : Number) → v ≡ Pass → ◌≡◌ {A = Outcome Number} (accepted x) (outcome_after v x)

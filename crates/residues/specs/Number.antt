@@ -1,6 +1,5 @@
 -- Numbers modulo p that travel with their p: what each operation answers, at every input. (Where the arithmetic of refusal 2 finds
 -- p prime, the numbers below p are the field F_p: see the crate algebra.)
---   number_outcome r      number and values for each case of an answer
 --   residue p v          v modulo p, with its p
 --   operand_checks p xs   refusals 1, 2 and 6 for the operands xs
 --   sum_of, difference_of, product_of, inverse_number   the outcomes
@@ -8,14 +7,8 @@
 use Rattle.std.specs.Prelude.{ℕ, ◌+◌, ◌-◌, ◌*◌, ◌%◌, List, [], ◌∷◌, ◌++◌, eqb}
 use Rattle.numbers.specs.Words.{first_large}
 use Rattle.numbers.specs.Divisor.{inverse_of}
-use Rattle.numbers.specs.Refusals.{Check, check, judge, Outcome, accepted, refused, outcome_after, modulus_checks, unreduced}
+use Rattle.numbers.specs.Refusals.{Check, check, judge, Outcome, outcome_after, modulus_checks, unreduced}
 use Rattle.residues.specs.declared.Number.{Number}
-use Rattle.residues.specs.declared.NumberAnswer.{NumberAnswer}
-use Rattle.residues.specs.declared.NumberAnswer.TheVariants.{Is, Refused}
-
-abbrev pub number_outcome : NumberAnswer → Outcome Number
-number_outcome (Is n) = accepted n
-number_outcome (Refused r) = refused r.number r.detail
 
 -- v modulo p, with its p
 abbrev pub residue : ℕ → ℕ → Number

@@ -2,12 +2,13 @@
 #![tactic(auto)]
 
 ghost use Rattle.std.specs.Prelude.{◌≡◌, ◌≤◌, length};
-ghost use Rattle.numbers.specs.Refusals.{judge};
-ghost use Rattle.residues.specs.Number.{number_outcome, operand_checks, sum_of, difference_of, product_of, inverse_number};
+ghost use Rattle.numbers.specs.Refusals.{judge, outcome, verdict};
+ghost use Rattle.residues.specs.Number.{operand_checks, sum_of, difference_of, product_of, inverse_number};
 
 use numbers::judge::{check_modulus, first_large};
 use numbers::kernel::inverse_of;
-use numbers::refusal::{Refusal, Verdict, refuse};
+use numbers::refusal::Refusal;
+use std::fmt;
 
 #[derive(Clone, Copy)]
 pub struct Number {
@@ -15,86 +16,68 @@ pub struct Number {
     pub value: u32,
 }
 
-#[derive(Clone, Copy)]
-pub enum NumberAnswer {
-    Is(Number),
-    Refused(Refusal),
-}
-
 // Refusals 1, 2 and 6.
-fn check_operands(p: u32, operands: &[u32]) -> Verdict
+fn check_operands(p: u32, operands: &[u32]) -> Result<(), Refusal>
     requires { length operands.now ≤ 2 }
-    ensures { result ≡ judge (operand_checks p operands.now) }
+    ensures { verdict result ≡ judge (operand_checks p operands.now) }
 {
-    let v = check_modulus(p);
-    if let Verdict::Refuse(_) = v {
-        return v;
-    }
+    check_modulus(p)?;
     let at = first_large(p, operands);
     if at < operands.len() {
-        return refuse(6, at as u32);
+        return Err(Refusal::Unreduced(at as u32));
     }
-    Verdict::Pass
+    Ok(())
 }
 
 impl Number {
-    pub fn sum(self, other: u32) -> NumberAnswer
-        ensures { number_outcome result ≡ sum_of self other }
+    pub fn sum(self, other: u32) -> Result<Number, Refusal>
+        ensures { outcome result ≡ sum_of self other }
     {
-        let p = self.p;
-        let value = self.value;
-        if let Verdict::Refuse(r) = check_operands(p, &[value, other]) {
-            return NumberAnswer::Refused(r);
-        }
-        NumberAnswer::Is(Number {
+        let Number { p, value } = self;
+        check_operands(p, &[value, other])?;
+        Ok(Number {
             p,
             value: (value + other) % p,
         })
     }
 
-    pub fn difference(self, other: u32) -> NumberAnswer
-        ensures { number_outcome result ≡ difference_of self other }
+    pub fn difference(self, other: u32) -> Result<Number, Refusal>
+        ensures { outcome result ≡ difference_of self other }
     {
-        let p = self.p;
-        let value = self.value;
-        if let Verdict::Refuse(r) = check_operands(p, &[value, other]) {
-            return NumberAnswer::Refused(r);
-        }
-        NumberAnswer::Is(Number {
+        let Number { p, value } = self;
+        check_operands(p, &[value, other])?;
+        Ok(Number {
             p,
             value: (value + (p - other)) % p,
         })
     }
 
-    pub fn product(self, other: u32) -> NumberAnswer
-        ensures { number_outcome result ≡ product_of self other }
+    pub fn product(self, other: u32) -> Result<Number, Refusal>
+        ensures { outcome result ≡ product_of self other }
     {
-        let p = self.p;
-        let value = self.value;
-        if let Verdict::Refuse(r) = check_operands(p, &[value, other]) {
-            return NumberAnswer::Refused(r);
-        }
+        let Number { p, value } = self;
+        check_operands(p, &[value, other])?;
         let v = (value as u64) * (other as u64) % (p as u64);
-        NumberAnswer::Is(Number { p, value: v as u32 })
+        Ok(Number { p, value: v as u32 })
     }
 
-    pub fn inverse(self) -> NumberAnswer
-        ensures { number_outcome result ≡ inverse_number self }
+    pub fn inverse(self) -> Result<Number, Refusal>
+        ensures { outcome result ≡ inverse_number self }
     {
-        let p = self.p;
-        let value = self.value;
-        if let Verdict::Refuse(r) = check_operands(p, &[value]) {
-            return NumberAnswer::Refused(r);
-        }
+        let Number { p, value } = self;
+        check_operands(p, &[value])?;
         if value == 0 {
-            return NumberAnswer::Refused(Refusal {
-                number: 12,
-                detail: 0,
-            });
+            return Err(Refusal::NoUnit);
         }
-        NumberAnswer::Is(Number {
+        Ok(Number {
             p,
             value: inverse_of(p, value),
         })
+    }
+}
+
+impl fmt::Display for Number {
+    fn fmt<W: fmt::Write>(&self, f: &mut fmt::Formatter<W>) -> fmt::Result {
+        write!(f, "{} mod {}", self.value, self.p)
     }
 }

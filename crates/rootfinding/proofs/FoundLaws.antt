@@ -1,15 +1,13 @@
 -- What was found, checked.
 --   over-take          what was copied over the first words
 --   answer-large, answer-falling, answer-found   what the check answers
---   found-unsplit      no list of roots gives a polynomial that does not split
 --   found-checked      a checked list is the list of all roots
 --   found-scanned      and where the list of all roots fails, every list does
---   monic-modulus      the polynomial as a modulus
 -- Assumes nothing.
 use mathlib.Core.Path.{◌≡◌, sym, ap, subst, ◌∙◌}
 use mathlib.Core.Bool.{Bool, true, false}
 use mathlib.Core.List.{List}
-use Prim.Native.Nat.{ℕ, zero, ◌+◌, ◌-◌, ◌≤◌, ◌<◌}
+use Prim.Native.Nat.{ℕ, ◌≤◌, ◌<◌}
 use native.Mathlib.Nat.{le_refl}
 use native.Mathlib.Omega.{arith}
 use lib.ListN.{length, take, drop}
@@ -20,9 +18,8 @@ use Rattle.numbers.specs.internal.Facts.{AllBelow, Rising}
 use Rattle.numbers.proofs.WordsLaws.{true-false, large-there}
 use Rattle.numbers.proofs.TestsLaws.{rising-passes}
 use Rattle.powers.specs.internal.Powers.{GivesPowers, FoundPowers, Unsplit}
-use Rattle.modulo.specs.internal.Modulo.{ModulusOf}
 use Rattle.rootfinding.specs.Roots.{all_roots}
-use Rattle.rootfinding.specs.internal.Finding.{Monic, SplitAnswer, FoundRoots}
+use Rattle.rootfinding.specs.internal.Finding.{Monic, SplitAnswer, RootsAre}
 use Rattle.rootfinding.proofs.RootsLaws.{roots-rise, roots-below, roots-complete, unsplit-all}
 
 pub over-take : (xs s e : List ℕ) → e ≡ over xs s → take (length xs) e ≡ xs
@@ -45,36 +42,20 @@ module _ (p : ℕ) (e roots powers : List ℕ) where
     no = λ z _ _ m G. f.no z m (subst (λ x. GivesPowers p roots x m) (sym q) G);
   }
 
-pub found-unsplit : (p : ℕ) (e roots powers : List ℕ) → Unsplit p e → FoundRoots p e zero roots powers
-found-unsplit p e roots powers u = record { fits = omega arith; yes = λ z. absurd (let y : ⊥ = omega arith in y); no = λ _. u }
-
 module _ (p : ℕ) (e : List ℕ) (monic : Monic p e) (n : ℕ) (roots powers : List ℕ) (found : Bool) (a : SplitAnswer p e (take n roots) found powers) where
-  pub found-checked : n ≤ length roots → found ≡ true → FoundRoots p e n roots powers
+  pub found-checked : n ≤ length roots → found ≡ true → RootsAre p e n roots powers
   found-checked l t =
       let (up, low, G) = a.yes t in
       let all = roots-complete monic.prime e (take n roots) (word powers) G up low in
+      let k = sum_to-some (length (take n roots)) (word powers) (omega (arith, G.sum, monic.some)) in
       record {
+        some = let y = length-take-le n roots l in omega arith;
         fits = l;
-        yes = λ _. (sym all, subst (λ x. GivesPowers p x e (word powers)) (sym all) G);
-        no = λ z _ _ _. let k = sum_to-some (length (take n roots)) (word powers) (omega (arith, G.sum, monic.some)) in let y = length-take-le n roots l in let w : ⊥ = omega arith in w;
+        all = sym all;
+        gives = subst (λ x. GivesPowers p x e (word powers)) (sym all) G;
       }
 
-  pub found-scanned : take n roots ≡ all_roots p e → found ≡ false → FoundRoots p e zero roots powers
+  pub found-scanned : take n roots ≡ all_roots p e → found ≡ false → Unsplit p e
   found-scanned q t =
       let never = (subst (λ s. SplitAnswer p e s found powers) q a).no t (roots-rise monic.prime e) (roots-below monic.prime e) in
-      found-unsplit p e roots powers ((unsplit-all monic.prime e).1 never)
-
-pub monic-modulus : (p : ℕ) (e : List ℕ) (d : ℕ) → Monic p e → length e ≡ d + 1 → ModulusOf p e d
-monic-modulus p e d h q =
-    let two = h.prime.two-le in
-    let some = h.some in
-    let few = h.few in
-    record {
-      positive = omega arith;
-      small = h.small;
-      some = omega arith;
-      few = omega arith;
-      long = q;
-      below = h.below;
-      top = ap (word e) (let z : d ≡ length e - 1 = omega arith in z) ∙ h.top;
-    }
+      (unsplit-all monic.prime e).1 never

@@ -2,7 +2,7 @@
 --   root-yes, root-no   a value that is 0, and one that is not
 --   keep-yes, keep-no   what `keep` answers and leaves
 --   Scanning ..         the loop's invariant: the roots below c are the first n words
---   scanning-none, scanning-room, scanning-next, scanning-all
+--   scanning-none, scanning-room, scanning-next
 -- Assumes nothing.
 use mathlib.Core.Path.{◌≡◌, refl, sym, ap, subst, ◌∙◌}
 use mathlib.Core.Bool.{Bool, true, false}
@@ -11,13 +11,13 @@ use Prim.Native.Nat.{ℕ, ◌+◌, ◌≤◌, ◌<◌}
 use native.Mathlib.Numerals.{add-one}
 use native.Mathlib.Omega.{arith}
 use borrow.Author.Tests.{eq-eqb, ne_eqb}
-use lib.ListN.{length, take, set, length-append}
+use lib.ListN.{length, set, length-append}
 use Rattle.numbers.specs.Words.{word, choose, keep, all_where}
 use Rattle.numbers.specs.Limits.{largest_degree}
-use Rattle.numbers.proofs.WordsLaws.{Writing, writing-none, writing-store, writing-take}
+use Rattle.numbers.proofs.WordsLaws.{Writing, writing-none, writing-store}
 use Rattle.numbers.proofs.ListedLaws.{where-last}
 use Rattle.columns.specs.internal.Column.{horner_word}
-use Rattle.rootfinding.specs.Roots.{is_root, all_roots}
+use Rattle.rootfinding.specs.Roots.{is_root}
 use Rattle.rootfinding.specs.internal.Finding.{Monic, Kept}
 use Rattle.rootfinding.proofs.RootsLaws.{roots_below, value-horner, roots_few}
 
@@ -72,9 +72,3 @@ module _ (p : ℕ) (e s : List ℕ) (monic : Monic p e) (long : length s ≡ lar
     writing = rw (next, b)
         (writing-keep (is_root p e c) c n roots (roots_below p e c) s h.writing h.count (λ t. let z = scanning-room l t in omega (arith, h.writing.long)));
   }
-
-  pub scanning-all : c ≡ p → (n ≤ length s) × (take n roots ≡ all_roots p e)
-  scanning-all z = (
-    let y = few c (omega arith) in let x = h.count in let w = monic.few in omega arith,
-    writing-take (roots_below p e c) s roots n h.writing h.count ∙ ap (roots_below p e) z,
-  )

@@ -6,7 +6,7 @@ ghost use Rattle.rootfinding.specs.internal.Finding.{Monic, SplitAnswer, FoundRo
 use crate::scan::scan;
 use crate::search::candidates;
 use columns::copy;
-use modulo::{frobenius_of, may_split};
+use modulo::Modulus;
 use numbers::judge::{first_large, rises};
 use numbers::limits::MOST_ROWS;
 use powers::find_powers;
@@ -32,32 +32,41 @@ fn certify(p: u32, e: &[u32], roots: &[u32], powers: &mut [u32]) -> bool
 }
 
 // By trying every number.
-fn by_scan(p: u32, e: &[u32], roots: &mut [u32], powers: &mut [u32]) -> usize
+fn by_scan(p: u32, e: &[u32], roots: &mut [u32], powers: &mut [u32]) -> Option<usize>
     requires { Monic p e.now × (length roots.old ≡ largest_degree) × (length powers.old ≡ largest_degree) }
     ensures { FoundRoots p e.now result roots.new powers.new }
 {
     let n = scan(p, e, roots);
     if certify(p, e, &roots[..n], powers) {
-        return n;
+        Some(n)
+    } else {
+        None
     }
-    0
 }
 
 // A small p is scanned. Else the split test comes first, and then the search, whose answer is checked: what it does not find is scanned. w is room for Y^p − Y modulo e.
-pub fn find_with(p: u32, e: &[u32], w: &mut [u32], roots: &mut [u32], powers: &mut [u32]) -> usize
+pub fn find_with(
+    p: u32,
+    e: &[u32],
+    w: &mut [u32],
+    roots: &mut [u32],
+    powers: &mut [u32],
+) -> Option<usize>
     requires { Monic p e.now × (length e.now ≡ length w.old + 1) × (length roots.old ≡ largest_degree) × (length powers.old ≡ largest_degree) }
     ensures { FoundRoots p e.now result roots.new powers.new }
 {
     if p < SEARCHED_FROM {
         return by_scan(p, e, roots, powers);
     }
-    frobenius_of(p, e, w);
-    if !may_split(p, e, w) {
-        return 0;
+    let modulus = Modulus { p, f: e };
+    modulus.frobenius_of(w);
+    if !modulus.may_split(w) {
+        return None;
     }
     let n = candidates(p, e, w, roots);
     if certify(p, e, &roots[..n], powers) {
-        return n;
+        Some(n)
+    } else {
+        by_scan(p, e, roots, powers)
     }
-    by_scan(p, e, roots, powers)
 }

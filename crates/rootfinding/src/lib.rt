@@ -12,9 +12,9 @@ ghost use Rattle.rootfinding.specs.internal.Finding.{Monic, FoundRoots};
 use finding::find_with;
 use numbers::limits::MOST_ROOTS;
 
-// All roots of the monic polynomial in e, rising, over the first words of `roots`, and their powers over the first of `powers`. The answer is their number; it is 0
+// All roots of the monic polynomial in e, rising, over the first words of `roots`, and their powers over the first of `powers`. The answer is their number; there is none
 // exactly where the polynomial is no product of powers of Y minus a number.
-pub fn find_roots(p: u32, e: &[u32], roots: &mut [u32], powers: &mut [u32]) -> usize
+pub fn find_roots(p: u32, e: &[u32], roots: &mut [u32], powers: &mut [u32]) -> Option<usize>
     requires { Monic p e.now × (length roots.old ≡ largest_degree) × (length powers.old ≡ largest_degree) }
     ensures { FoundRoots p e.now result roots.new powers.new }
 {

@@ -25,10 +25,8 @@ pub fn scan(p: u32, e: &[u32], roots: &mut [u32]) -> usize
     ensures { (result ≤ length roots.old) × (take result roots.new ≡ all_roots p e.now) }
 {
     let mut n = 0;
-    let mut c = 0;
-    while c < p {
+    for c in 0..p {
         n = keep(p, e, c, n, roots);
-        c += 1;
     }
     n
 }

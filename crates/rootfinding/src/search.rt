@@ -1,13 +1,12 @@
 // The search: the distinct roots by gcd with Y^p − Y, parted by gcd with (Y + c)^((p − 1)/2) − 1 for c = 0, 1, 2, .. Nothing is promised of what is found, and
 // nothing has to be: it is checked afterwards. The contracts here are for safety alone.
-ghost use Rattle.std.specs.Prelude.{◌≡◌, ◌≤◌, ◌<◌, length};
+ghost use Rattle.std.specs.Prelude.{◌≡◌, ◌+◌, ◌≤◌, ◌<◌, length, IfSome};
 ghost use Rattle.algebra.specs.Prime.{Prime};
 ghost use Rattle.numbers.specs.Limits.{largest_degree, most_rows};
 ghost use Rattle.numbers.specs.internal.Limits.{modulus_bound};
-ghost use Rattle.modulo.specs.internal.Modulo.{ModulusOf};
 
 use columns::{copy, less, less_multiple};
-use modulo::power_of;
+use modulo::Modulus;
 use numbers::judge::{first_large, outside};
 use numbers::kernel::inverse_of;
 use numbers::limits::{MOST_ROOTS, MOST_ROWS};
@@ -19,14 +18,9 @@ const STEPS: u32 = 1024;
 fn size(s: &[u32]) -> usize
     ensures { result ≤ length s.now }
 {
-    let mut n = s.len();
-    while 0 < n {
-        if s[n - 1] != 0 {
-            return n;
-        }
-        n -= 1;
-    }
-    n
+    s.iter()
+        .rposition(|word| *word != 0)
+        .map_or(0, |last| last + 1)
 }
 
 // Divided by the last word.
@@ -38,10 +32,8 @@ fn make_monic(p: u32, s: &mut [u32])
         return;
     }
     let w = inverse_of(p, last);
-    let mut j = 0;
-    while j < s.len() {
-        s[j] = ((s[j] as u64) * (w as u64) % (p as u64)) as u32;
-        j += 1;
+    for word in s.iter_mut() {
+        *word = ((*word as u64) * (w as u64) % (p as u64)) as u32;
     }
 }
 
@@ -50,9 +42,7 @@ fn divide(p: u32, g: &[u32], s: &mut [u32])
     requires { (1 ≤ p) × (p < modulus_bound) }
 {
     let m = g.len();
-    let mut i = s.len();
-    while m < i {
-        i -= 1;
+    for i in (m..s.len()).rev() {
         let q = s[i];
         less_multiple(p, q, g, &mut s[i - m..i]);
     }
@@ -90,14 +80,15 @@ fn gcd(p: u32, a: &mut [u32], b: &mut [u32]) -> usize
 }
 
 // The gcd of f and (Y + c)^((p − 1)/2) − 1, over the first words of g; h is room. The answer is their number.
-fn factor(p: u32, c: u32, f: &[u32], h: &mut [u32], g: &mut [u32]) -> usize
-    requires { Prime p × (c < p) × ModulusOf p f.now (length h.old) × (length f.now ≤ length g.old) }
+fn factor(modulus: Modulus, c: u32, h: &mut [u32], g: &mut [u32]) -> usize
+    requires { Prime modulus.p × (c < modulus.p) × (length modulus.f.now ≡ length h.old + 1) × (length modulus.f.now ≤ length g.old) }
     ensures { result ≤ length g.old }
 {
+    let p = modulus.p;
     let one = [1u32; 1];
-    power_of(p, f, c, (p - 1) / 2, h);
+    modulus.power_of(c, (p - 1) / 2, h);
     less_multiple(p, 1, &one, h);
-    copy(f, g);
+    copy(modulus.f, g);
     gcd(p, g, h)
 }
 
@@ -113,29 +104,27 @@ fn put_parts(p: u32, g: &[u32], f: &mut [u32], piece: &mut [u32])
 }
 
 // The monic polynomial with these lower words is parted, where Y + c tells some of its roots from the others. Then the lower words of both parts stand in
-// place of its own, and the answer is the degree of the first. Else it is 0.
-fn part(p: u32, c: u32, piece: &mut [u32]) -> usize
+// place of its own, and the answer is the degree of the first.
+fn part(p: u32, c: u32, piece: &mut [u32]) -> Option<usize>
     requires { Prime p × (p < modulus_bound) × (c < p) × (1 ≤ length piece.old) × (length piece.old ≤ largest_degree) }
-    ensures { result < length piece.old }
+    ensures { IfSome result (λ m. m < length piece.old) }
 {
     let d = piece.len();
     if first_large(p, piece) < d {
-        return 0;
+        return None;
     }
     let mut f = [0u32; MOST_ROWS];
     let mut g = [0u32; MOST_ROWS];
     let mut h = [0u32; MOST_ROOTS];
     copy(piece, &mut f);
     f[d] = 1;
-    let n = factor(p, c, &f[..d + 1], &mut h[..d], &mut g);
-    if n < 2 {
-        return 0;
-    }
-    if d < n {
-        return 0;
+    let modulus = Modulus { p, f: &f[..d + 1] };
+    let n = factor(modulus, c, &mut h[..d], &mut g);
+    if n < 2 || d < n {
+        return None;
     }
     put_parts(p, &g[..n - 1], &mut f[..d + 1], piece);
-    n - 1
+    Some(n - 1)
 }
 
 // The root of the linear piece at o, put in its place among the roots below, which rise.
@@ -143,15 +132,9 @@ fn put_root(p: u32, o: usize, roots: &mut [u32])
     requires { (1 ≤ p) × (p < modulus_bound) × (o < length roots.old) }
 {
     let c = less(p, 0, roots[o] as u64);
-    let mut j = o;
-    while 0 < j {
-        if roots[j - 1] < c {
-            break;
-        }
-        roots[j] = roots[j - 1];
-        j -= 1;
-    }
-    roots[j] = c;
+    let at = roots[..o].iter().position(|root| c <= *root).unwrap_or(o);
+    roots.copy_within(at..o, at + 1);
+    roots[at] = c;
 }
 
 // One step. Below o stand the roots found, from o on the pieces, each one's degree in `sizes` where it begins. The answer is where the next step goes on.
@@ -167,10 +150,9 @@ fn step(p: u32, c: u32, o: usize, sizes: &mut [usize], roots: &mut [u32]) -> usi
     if roots.len() - o < d {
         return o;
     }
-    let m = part(p, c, &mut roots[o..o + d]);
-    if m < 1 {
+    let Some(m) = part(p, c, &mut roots[o..o + d]) else {
         return o;
-    }
+    };
     sizes[o] = m;
     sizes[o + m] = d - m;
     o
@@ -184,13 +166,11 @@ fn part_all(p: u32, roots: &mut [u32]) -> usize
     let mut sizes = [0usize; MOST_ROOTS];
     sizes[0] = roots.len();
     let mut o = 0;
-    let mut steps = 0u32;
-    while steps < STEPS {
+    for steps in 0..STEPS {
         if roots.len() <= o {
             break;
         }
         o = step(p, steps % p, o, &mut sizes, roots);
-        steps += 1;
     }
     o
 }

@@ -11,8 +11,7 @@ use Rattle.numbers.specs.internal.Limits.{modulus_bound}
 use Rattle.numbers.specs.Limits.{most_rows, largest_degree, largest_width}
 use Rattle.numbers.specs.Words.{over}
 use Rattle.numbers.specs.internal.Facts.{AllBelow}
-use Rattle.numbers.specs.Refusals.{Check, check, judge, refusal, input_checks, room_check, Outcome, accepted, outcome_after, written}
-use Rattle.numbers.specs.declared.refusal.Verdict.TheVariants.{Pass, Refuse}
+use Rattle.numbers.specs.Refusals.{Check, check, judge, refusal, input_checks, room_check, Outcome, accepted, outcome_after, written, Pass, Refuse}
 use Rattle.numbers.proofs.RefusalsLaws.{Modulus, after-pass, take-check, skip-check, none-judged, operation-pass, inputs-fine, few_words, answer-done}
 use Rattle.rows.specs.Rows.{rows_checks, shift_checks}
 

@@ -56,13 +56,6 @@ row_in j rows n s l h w e =
     let b = few_words rows n h w in
     record { start = omega arith; end = omega arith; front = omega arith; within = omega arith }
 
--- a place is far below what a word of 64 bits holds
-pub far : {x : ℕ} → x ≤ 8448 → x < 18446744073709551616
-far h = omega arith
-
-pub far-words : {x : ℕ} → x ≤ 8448 → x * 4 < 18446744073709551616
-far-words h = omega arith
-
 -- tables
 pub table_none : (N : ℕ) (a : ℕ → ℕ → ℕ) → table 0 N a ≡ []
 unfolding table

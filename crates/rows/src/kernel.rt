@@ -12,25 +12,6 @@ use numbers::judge::first_large;
 use numbers::limits::MOST_ROWS;
 use series::kernel::dot;
 
-fn first_row(j: usize, grows: usize) -> usize
-    requires { j < 4096 }
-    ensures { result ≡ j + 1 - grows }
-{
-    if grows <= j {
-        return j + 1 - grows;
-    }
-    0
-}
-
-fn least(a: usize, b: usize) -> usize
-    ensures { result ≡ a - (a - b) }
-{
-    if a < b {
-        return a;
-    }
-    b
-}
-
 // For the coefficient of Y^j of f · g: row i of f along row j − i of g, for each i that both have, `count` columns of each from column
 // `skip` on. At most 33 passes, each of at most 256 products below 2^48.
 pub fn passes(
@@ -47,14 +28,13 @@ pub fn passes(
         × AllBelow modulus_bound f.now × AllBelow modulus_bound g.now }
     ensures { result ≡ pass_sum (rows_of f.now n frows) (rows_of g.now n grows) j skip count }
 {
-    let end = least(j + 1, frows);
+    let first = (j + 1).saturating_sub(grows);
+    let end = frows.min(j + 1);
     let mut sum: u64 = 0;
-    let mut i = first_row(j, grows);
-    while i < end {
+    for i in first..end {
         let a = i * n + skip;
         let b = (j - i) * n + skip;
         sum += dot(&f[a..], &g[b..], count);
-        i += 1;
     }
     sum
 }
@@ -75,11 +55,9 @@ fn product_row(
     ensures { out.new ≡ tabulate n (mul p (rows_of f.now n frows) (rows_of g.now n grows) j) }
 {
     let modulus = p as u64;
-    let mut t = 0;
-    while t < n {
+    for t in 0..n {
         let sum = passes(f, frows, g, grows, n, j, 0, t + 1);
         out[t] = (sum % modulus) as u32;
-        t += 1;
     }
 }
 
@@ -90,12 +68,10 @@ pub fn multiply(p: u32, f: &[u32], frows: usize, g: &[u32], grows: usize, n: usi
     ensures { out.new ≡ over (table (frows + grows - 1) n (mul p (rows_of f.now n frows) (rows_of g.now n grows))) out.old }
 {
     let rows = frows + grows - 1;
-    let mut j = 0;
-    while j < rows {
+    for j in 0..rows {
         let a = j * n;
         let e = a + n;
         product_row(p, f, frows, g, grows, n, j, &mut out[a..e]);
-        j += 1;
     }
 }
 
@@ -105,10 +81,8 @@ fn first_weights(p: u32, c: u32, weights: &mut [u32])
     ensures { weights.new ≡ tabulate (length weights.old) (λ i. line_power p c i 0) }
 {
     weights[0] = 1;
-    let mut i = 1;
-    while i < weights.len() {
+    for i in 1..weights.len() {
         weights[i] = ((c as u64) * (weights[i - 1] as u64) % (p as u64)) as u32;
-        i += 1;
     }
 }
 
@@ -120,12 +94,10 @@ fn next_weights(p: u32, c: u32, weights: &mut [u32])
 {
     let mut before = weights[0];
     weights[0] = 0;
-    let mut i = 1;
-    while i < weights.len() {
+    for i in 1..weights.len() {
         let old = weights[i];
         weights[i] = (((c as u64) * (weights[i - 1] as u64) + before as u64) % (p as u64)) as u32;
         before = old;
-        i += 1;
     }
 }
 
@@ -135,10 +107,8 @@ fn weighted_sum(f: &[u32], n: usize, weights: &[u32], t: usize) -> u64
     ensures { result ≡ weight_sum f.now n weights.now t }
 {
     let mut sum: u64 = 0;
-    let mut i = 0;
-    while i < weights.len() {
+    for i in 0..weights.len() {
         sum += (f[i * n + t] as u64) * (weights[i] as u64);
-        i += 1;
     }
     sum
 }
@@ -150,11 +120,9 @@ pub fn combine(p: u32, f: &[u32], n: usize, weights: &[u32], out: &mut [u32])
     ensures { out.new ≡ tabulate n (λ t. weight_sum f.now n weights.now t % p) }
 {
     let modulus = p as u64;
-    let mut t = 0;
-    while t < n {
+    for t in 0..n {
         let sum = weighted_sum(f, n, weights, t);
         out[t] = (sum % modulus) as u32;
-        t += 1;
     }
 }
 
@@ -165,13 +133,11 @@ pub fn shift(p: u32, c: u32, f: &[u32], rows: usize, n: usize, out: &mut [u32])
 {
     let mut weights = [0u32; MOST_ROWS];
     first_weights(p, c, &mut weights[..rows]);
-    let mut j = 0;
-    while j < rows {
+    for j in 0..rows {
         let a = j * n;
         let e = a + n;
         combine(p, &f[a..], n, &weights[j..rows], &mut out[a..e]);
         next_weights(p, c, &mut weights[..rows]);
-        j += 1;
     }
 }
 
@@ -180,14 +146,12 @@ pub fn rows_below(q: u32, s: &[u32], n: usize, rows: usize, from: usize, to: usi
     requires { (rows * n ≤ length s.now) × (from ≤ to) × (to ≤ n) }
     ensures { result ≡ rows_below q s.now n rows from to }
 {
-    let mut j = 0;
-    while j < rows {
+    for j in 0..rows {
         let a = j * n + from;
         let e = j * n + to;
         if first_large(q, &s[a..e]) < to - from {
             return false;
         }
-        j += 1;
     }
     true
 }

@@ -11,24 +11,14 @@ use lib.ListN.{length, take}
 use lib.Seq.{length-take-le}
 use Rattle.numbers.specs.Words.{word, over}
 use Rattle.numbers.specs.internal.Facts.{AllBelow}
-use Rattle.numbers.specs.Refusals.{Check, check, judge, refusal, room_check, input_checks, Outcome, accepted, outcome, outcome_after, written}
-use Rattle.numbers.specs.declared.refusal.Refusal.{Refusal}
-use Rattle.numbers.specs.declared.refusal.Verdict.{Verdict}
-use Rattle.numbers.specs.declared.refusal.Verdict.TheVariants.{Pass, Refuse}
-use Rattle.numbers.specs.declared.refusal.Answer.{Answer}
-use Rattle.numbers.specs.declared.refusal.Answer.TheVariants.{Refused}
+use Rattle.numbers.specs.Refusals.{Check, check, judge, refusal, room_check, input_checks, Outcome, accepted, outcome_after, written, Pass, Refuse}
 use Rattle.numbers.proofs.WordsLaws.{take_below}
-use Rattle.numbers.proofs.RefusalsLaws.{after-pass, pass-check, take-check, skip-check, pass-parts, none-judged, both, Inputs, inputs-pass, operation-pass, answer-refused, answer-done}
+use Rattle.numbers.proofs.RefusalsLaws.{after-pass, pass-check, take-check, skip-check, pass-parts, none-judged, both, Inputs, inputs-pass, operation-pass, answer-done}
 use Rattle.numbers.specs.internal.Limits.{modulus_bound}
 use Rattle.numbers.specs.Limits.{largest_width}
 use Rattle.series.specs.Known.{KnownTo, known_to, unknown_check}
 use Rattle.series.specs.Series.{series_checks, known_checks}
 use Rattle.series.proofs.KnownLaws.{known-test}
-
--- where a call made the refusal
-pub answer-told : {v : Verdict} (a : Answer) (r : Refusal) (n : ℕ) (new old : List ℕ) → a ≡ Refused r → v ≡ Refuse r
-    → record { answer : outcome a ≡ outcome_after v n; words : old ≡ written v new old }
-answer-told a r n new old w e = rw w (answer-refused r n new old e)
 
 -- what a pass says of two series, as the kernels require it
 module _ (p N : ℕ) (g h : List ℕ) (room : ℕ) (e : judge (series_checks p N g h room) ≡ Pass) where

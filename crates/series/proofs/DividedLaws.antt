@@ -26,13 +26,9 @@ use Rattle.algebra.proofs.SumsLaws.{sum_to-ext, sum_to-zeros, sum_to-append}
 use Rattle.algebra.proofs.FpLaws.{p-pos}
 use Rattle.numbers.specs.Words.{word, first_where, first_nonzero, first_large, tabulate, over, part}
 use Rattle.numbers.specs.Divisor.{least_divisor}
-use Rattle.numbers.specs.Refusals.{Check, check, judge, refusal, outcome, accepted}
+use Rattle.numbers.specs.Refusals.{Check, check, judge, refusal, accepted, refused, Row, Pass, Refuse}
 use Rattle.numbers.specs.One.{TheOne, OneOutcome}
 use Rattle.numbers.specs.internal.Facts.{AllBelow}
-use Rattle.numbers.specs.declared.refusal.Refusal.{Refusal}
-use Rattle.numbers.specs.declared.refusal.Verdict.TheVariants.{Pass, Refuse}
-use Rattle.numbers.specs.declared.refusal.Answer.{Answer}
-use Rattle.numbers.specs.declared.refusal.Answer.TheVariants.{Refused}
 use Rattle.numbers.proofs.WordsLaws.{lt-or-ge, from, from_is, length_from, drop-below, nonzero-is, nonzero-le, nonzero-there, nonzero-before, zeros-nonzero, length-tabulate, word-tabulate}
 use Rattle.numbers.proofs.RefusalsLaws.{both, after_same, skip-check, leave-refused, leave-done, operation-pass, pass-parts, pass-check, reduced, below-reduced}
 use Rattle.numbers.proofs.OneLaws.{verdict-one}
@@ -240,8 +236,8 @@ divided-one p N f g old =
 
 -- an outcome, after the checks
 module _ (p N : ℕ) (f g old : List ℕ) where
-  pub divided-refused : (a : Answer) (r : Refusal) → a ≡ Refused r → judge (quotient_checks p N f g (length old)) ≡ Refuse r → Divided p N f g old (outcome a) old
-  divided-refused a r w e = let x = leave-refused r (N - least_power g) (QuotientDone p N f g old old) old e in record { answers = ap outcome w ∙ x.0; leaves = x.1 }
+  pub divided-refused : (r : Row) → judge (quotient_checks p N f g (length old)) ≡ Refuse r → Divided p N f g old (refused r.number r.detail) old
+  divided-refused r e = let x = leave-refused r (N - least_power g) (QuotientDone p N f g old old) old e in record { answers = x.0; leaves = x.1 }
 
   pub divided-done : (k : ℕ) (new : List ℕ) → judge (quotient_checks p N f g (length old)) ≡ Pass → k ≡ N - least_power g → new ≡ over (quotient_words p N f g) old
       → Divided p N f g old (accepted k) new

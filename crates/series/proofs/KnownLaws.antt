@@ -1,23 +1,25 @@
 -- Rows of which not all terms are known.
 --   known-test, rows-known-test   known_to and KnownTo: the test of such a row, or of rows, and its conditions are one
 --   known-ext, rows-known-ext     only the words of the rows count
---   known-not, known_from   what `known_to` finds: a count outside, or whether all is 0 from word n on
+--   known-not, known_from_all   what `known_to` finds: a count outside, or whether all is 0 from word n on
 --   sums-known, product-known   words past the counts have no part in a sum or product
 --   sums-written, product-written   how the code gets there: the known words added or multiplied, and zeros after them
 -- Assumes nothing.
-use Prim.Native.Nat.{ℕ, ◌+◌, ◌-◌, ◌*◌, ◌%◌, ◌≤◌, ◌<◌, min}
+use Prim.Native.Nat.{ℕ, ◌+◌, ◌-◌, ◌%◌, ◌≤◌, ◌<◌, zero-le, min}
 use native.Mathlib.Omega.{arith}
 use mathlib.Core.Path.{◌≡◌, sym, ap, ap₂, ◌∙◌}
 use mathlib.Core.Logic.{◌↔◌}
-use mathlib.Core.Bool.{true, false}
+use mathlib.Core.Bool.{Bool, true, false}
 use mathlib.Core.List.{List, ◌++◌}
 use borrow.Author.Tests.{leb-true, le-leb}
 use lib.Dec.{eqb}
+use Rattle.std.specs.Bool.{MatchBool}
+use Rattle.std.specs.List.{AllWithin, HoldsAt}
 use lib.ListN.{length, take, drop}
 use lib.Seq.{get_or-take, length-take-le}
-use Rattle.numbers.specs.Words.{word, first_nonzero, tabulate, over, part, up_to}
-use Rattle.numbers.proofs.WordsLaws.{from, word-from, nonzero-is, nonzero-before, length-tabulate, tabulate-ext, tabulate-cut, up-ext}
-use Rattle.numbers.proofs.TestsLaws.{all_to-at, at-all_to, all_to-ext, all-at, ◌&◌, none_left, all_of, past_row, decided-test, decides-no, decides_eq}
+use Rattle.numbers.specs.Words.{word, tabulate, over, part, up_to}
+use Rattle.numbers.proofs.WordsLaws.{from, length_from, word-from, length-tabulate, tabulate-ext, tabulate-cut, up-ext}
+use Rattle.numbers.proofs.TestsLaws.{all_to-at, at-all_to, all_to-ext, all-at, ◌&◌, none_left, all_of, past_row, decided-test, decides-yes, decides-no}
 use Rattle.series.specs.Known.{KnownTo, known_to, rows_known}
 use Rattle.series.specs.Series.{sums, product_column, product}
 use Rattle.series.proofs.SeriesLaws.{sums-whole, product_whole, product-ext, zeros-after}
@@ -46,17 +48,17 @@ pub known-not : (N n : ℕ) (s : ℕ → ℕ) → (KnownTo N n s → ⊥) → fa
 known-not N n s h = decided-test false (known_to N n s) (known-test N n s) (decides-no h)
 
 -- where n is from 1 to the width
-pub known_from : (s : List ℕ) (n r : ℕ) → 1 ≤ n → n ≤ length s → r ≡ first_nonzero (length s - n) (λ i. word (from s n) (i * 1)) → eqb r (length s - n) ≡ known_to (length s) n (word s)
-known_from s n r low high e =
-    decided-test (eqb r (length s - n)) (known_to (length s) n (word s)) (known-test (length s) n (word s))
-    (decides_eq r (length s - n)
-    (λ q. record {
+pub known_from_all : (s : List ℕ) (n : ℕ) (r : Bool) → 1 ≤ n → n ≤ length s
+    → MatchBool r (AllWithin (λ x. x ≡ 0) (from s n) 0 (length (from s n))) ((k : ℕ) × (k < length (from s n)) × HoldsAt (λ x. x ≡ 0 → ⊥) (from s n) k)
+    → r ≡ known_to (length s) n (word s)
+known_from_all s n true low high h =
+    decided-test true _ (known-test (length s) n (word s))
+    (decides-yes record {
       low = low;
       high = high;
-      rest = λ t l u. ap (word s) (let z : t ≡ n + (t - n) * 1 = omega arith in z) ∙ sym (word-from s n ((t - n) * 1)) ∙ nonzero-before (length s - n) (λ i. word (from s n) (i * 1)) (t - n) (omega arith);
+      rest = λ t l u. ap (word s) (let z : t ≡ n + (t - n) = omega arith in z) ∙ sym (word-from s n (t - n)) ∙ h (t - n) 0 zero-le (omega (arith, length_from s n));
     })
-    (λ k. e ∙ sym (nonzero-is (length s - n) (λ i. word (from s n) (i * 1)) (length s - n) (omega arith)
-    (λ i l. word-from s n (i * 1) ∙ k.rest (n + i * 1) (omega arith) (omega arith)) (λ l. absurd (let z : ⊥ = omega arith in z)))))
+known_from_all s n false low high h = known-not _ _ _ (λ k. h.2 0 (word-from s n h.0 ∙ k.rest (n + h.0) (omega arith) (omega (arith, length_from s n))))
 
 module _ (p N : ℕ) (g g'' : List ℕ) (a : ℕ) (h h' : List ℕ) (b : ℕ) (same-g : (t : ℕ) → t < a → word g t ≡ word g'' t) (same-h : (t : ℕ) → t < b → word h t ≡ word h' t) where
   pub sums-known : sums p N g a h b ≡ sums p N g'' a h' b

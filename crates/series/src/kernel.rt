@@ -19,10 +19,8 @@ pub fn dot(g: &[u32], h: &[u32], k: usize) -> u64
     ensures { result ≡ dot_sum g.now h.now k }
 {
     let mut sum: u64 = 0;
-    let mut i = 0;
-    while i < k {
+    for i in 0..k {
         sum += (g[i] as u64) * (h[k - 1 - i] as u64);
-        i += 1;
     }
     sum
 }
@@ -32,26 +30,19 @@ pub fn first_nonzero(s: &[u32], step: usize, count: usize) -> usize
     requires { (1 ≤ step) × (count * step ≤ length s.now) }
     ensures { result ≡ first_nonzero count (λ i. word s.now (i * step)) }
 {
-    let mut i = 0;
-    let mut a = 0;
-    while i < count {
-        if s[a] != 0 {
-            break;
+    for i in 0..count {
+        if s[i * step] != 0 {
+            return i;
         }
-        i += 1;
-        a += step;
     }
-    i
+    count
 }
 
 // The lesser of two numbers.
 pub fn lesser(a: u32, b: u32) -> u32
     ensures { result ≡ min a b }
 {
-    if a < b {
-        return a;
-    }
-    b
+    a.min(b)
 }
 
 // Whether a row is known to n terms: n is from 1 to its width, and 0 stands from there on.
@@ -59,35 +50,21 @@ pub fn known_to(s: &[u32], n: u32) -> bool
     ensures { result ≡ known_to (length s.now) n (word s.now) }
 {
     let known = n as usize;
-    if known < 1 {
-        return false;
-    }
-    if s.len() < known {
-        return false;
-    }
-    let left = s.len() - known;
-    first_nonzero(&s[known..], 1, left) == left
+    1 <= known && known <= s.len() && s[known..].iter().all(|x| *x == 0)
 }
 
 // One word, over and over.
 pub fn repeat(x: u32, out: &mut [u32])
     ensures { out.new ≡ tabulate (length out.old) (λ _. x) }
 {
-    let mut i = 0;
-    while i < out.len() {
-        out[i] = x;
-        i += 1;
-    }
+    out.fill(x)
 }
 
 // Word t, or 0 past the end.
 pub fn word_or_zero(s: &[u32], t: usize) -> u32
     ensures { result ≡ word s.now t }
 {
-    if t < s.len() {
-        return s[t];
-    }
-    0
+    s.get(t).copied().unwrap_or(0)
 }
 
 // g + h, as many words as g has.
@@ -96,10 +73,8 @@ pub fn add(p: u32, g: &[u32], h: &[u32], out: &mut [u32])
     ensures { out.new ≡ over (sums p (length g.now) g.now (length g.now) h.now (length g.now)) out.old }
 {
     let n = g.len();
-    let mut t = 0;
-    while t < n {
+    for t in 0..n {
         out[t] = (g[t] + h[t]) % p;
-        t += 1;
     }
 }
 
@@ -109,10 +84,8 @@ pub fn subtract(p: u32, g: &[u32], h: &[u32], out: &mut [u32])
     ensures { out.new ≡ over (differences p (length g.now) g.now h.now) out.old }
 {
     let n = g.len();
-    let mut t = 0;
-    while t < n {
+    for t in 0..n {
         out[t] = (g[t] + (p - h[t])) % p;
-        t += 1;
     }
 }
 
@@ -122,10 +95,8 @@ pub fn reduce_sums(p: u32, sums: &[u64], out: &mut [u32])
     ensures { out.new ≡ tabulate (length out.old) (λ i. word sums.now i % p) }
 {
     let modulus = p as u64;
-    let mut i = 0;
-    while i < out.len() {
+    for i in 0..out.len() {
         out[i] = (sums[i] % modulus) as u32;
-        i += 1;
     }
 }
 
@@ -137,11 +108,9 @@ pub fn multiply(p: u32, g: &[u32], h: &[u32], out: &mut [u32])
 {
     let n = g.len();
     let modulus = p as u64;
-    let mut t = 0;
-    while t < n {
+    for t in 0..n {
         let sum = dot(g, h, t + 1);
         out[t] = (sum % modulus) as u32;
-        t += 1;
     }
 }
 
@@ -154,12 +123,10 @@ pub fn divide(p: u32, f: &[u32], g: &[u32], out: &mut [u32])
     let n = g.len();
     let modulus = p as u64;
     let inverse = inverse_of(p, g[0]) as u64;
-    let mut t = 0;
-    while t < n {
+    for t in 0..n {
         let sum = dot(&g[1..], &out[..t], t);
         let a = word_or_zero(f, t) as u64;
         out[t] = ((a + (modulus - sum % modulus)) * inverse % modulus) as u32;
-        t += 1;
     }
 }
 

@@ -12,8 +12,7 @@ use borrow.Author.Tests.{not-false, leb-false}
 use lib.Dec.{leb}
 use Rattle.algebra.proofs.SumsLaws.{sum_to-count}
 use Rattle.numbers.specs.Words.{over}
-use Rattle.numbers.specs.Refusals.{Check, check, judge, Outcome, outcome_after, written}
-use Rattle.numbers.specs.declared.refusal.Verdict.TheVariants.{Pass}
+use Rattle.numbers.specs.Refusals.{Check, check, judge, Outcome, outcome_after, written, Pass}
 use Rattle.numbers.proofs.RefusalsLaws.{pass-check, after-pass}
 use Rattle.layout.specs.Layout.{count, power, factor_part}
 use Rattle.layout.specs.internal.Places.{Placed}

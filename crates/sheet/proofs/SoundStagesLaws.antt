@@ -59,9 +59,6 @@ module _ (j d n : ℕ) where
   row-whole s l e = row-long j n s (omega (arith, row_fits j d n l))
 
   module _ (k : ℕ) (stored computed : List ℕ) (l : j < d) (ns : length stored ≡ d * n) (nc : length computed ≡ d * n) where
-    pub row_same : ((t : ℕ) → t < length (row_part n j stored) → word (row_part n j stored) t ≡ up_to k (word (row_part n j computed)) t) → RowSame n k stored computed j
-    row_same h t u = sym (row_word j n stored t u) ∙ h t (omega (arith, row-whole stored l ns)) ∙ ap (λ (x : ℕ). choose (ltb t k) x 0) (row_word j n computed t u)
-
     pub row_back : RowSame n k stored computed j → (t : ℕ) → t < length (row_part n j stored) → word (row_part n j stored) t ≡ up_to k (word (row_part n j computed)) t
     row_back h t u =
         let v : t < n = omega (arith, row-whole stored l ns) in

@@ -13,8 +13,7 @@ use mathlib.Core.List.{List, ◌∷◌}
 use borrow.Author.Tests.{leb-true, le-leb, ltb-true, lt-ltb, eqb-true, eq-eqb, not-false}
 use Rattle.algebra.specs.Prime.{Prime}
 use Rattle.numbers.specs.Divisor.{least_divisor}
-use Rattle.numbers.specs.Refusals.{Check, judge, refusal}
-use Rattle.numbers.specs.declared.refusal.Verdict.TheVariants.{Pass, Refuse}
+use Rattle.numbers.specs.Refusals.{Check, judge, refusal, Pass, Refuse}
 use Rattle.numbers.proofs.RefusalsLaws.{pass-check, take-check, skip-check}
 use Rattle.numbers.proofs.WordsLaws.{true-false}
 use Rattle.numbers.proofs.TestsLaws.{all-at, ◌&◌, none_left, all_of, all_to-at, at-all_to, eqs, square, lower, past}

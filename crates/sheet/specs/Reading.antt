@@ -1,20 +1,16 @@
 -- Reading factor i: its root and power, the part of the sheet that holds its rows, and these rows passed on, as a row polynomial of bound power − 1.
 --   sound_check, index_check, read_checks, read_verdict   refusals 13 and 16, and the checks of reading
---   read_factor, factor_outcome   root and power; number and values for each case of an answer
+--   read_factor         root and power
 --   read_part v s i      the part of the sheet that holds the rows, which is empty on a refusal
 --   times_checks, times_size, times_words   the product of factor i's rows and g: the checks, those of reading and then the product's own; how many words
 --                       it writes, and which; room is the length of the output
 --   shifted_checks, shifted_size, shifted_words   the same of the shift of these rows by c
 -- Assumes nothing.
 use Rattle.std.specs.Prelude.{ℕ, ◌+◌, ◌-◌, ◌*◌, List, ◌++◌, [], ◌∷◌, not, leb}
-use Rattle.numbers.specs.Refusals.{Check, judge, check, Outcome, accepted, refused}
-use Rattle.numbers.specs.declared.refusal.Verdict.{Verdict}
+use Rattle.numbers.specs.Refusals.{Check, judge, check, Verdict, Pass, Refuse}
 use Rattle.rows.specs.Rows.{product_checks, row_product, shift_checks, row_shift}
 use Rattle.layout.specs.Layout.{modulus, width, power, factor_part, count, root}
-use Rattle.numbers.specs.declared.refusal.Verdict.TheVariants.{Pass, Refuse}
 use Rattle.sheet.specs.declared.Factor.{Factor}
-use Rattle.sheet.specs.declared.FactorAnswer.{FactorAnswer}
-use Rattle.sheet.specs.declared.FactorAnswer.TheVariants.{Is, Refused}
 use Rattle.sheet.specs.Test.{sound_test}
 
 -- Reading factor i.
@@ -33,10 +29,6 @@ read_verdict s i = judge (read_checks s i)
 
 abbrev pub read_factor : List ℕ → ℕ → Factor
 read_factor s i = record { root = root s i; power = power s i }
-
-abbrev pub factor_outcome : FactorAnswer → Outcome Factor
-factor_outcome (Is f) = accepted f
-factor_outcome (Refused r) = refused r.number r.detail
 
 abbrev pub read_part : Verdict → List ℕ → ℕ → List ℕ
 read_part Pass s i = factor_part s i

@@ -73,24 +73,14 @@ fn cut_word(k: usize, row: &[u32], t: usize) -> u32
     requires { t < length row.now }
     ensures { result ≡ up_to k (word row.now) t }
 {
-    if t < k {
-        return row[t];
-    }
-    0
+    if t < k { row[t] } else { 0 }
 }
 
 fn same_row(k: usize, stored: &[u32], computed: &[u32]) -> bool
     requires { (length computed.now ≡ length stored.now) × (k ≤ length stored.now) }
     ensures { Decides result ((t : ℕ) → t < length stored.now → word stored.now t ≡ up_to k (word computed.now) t) }
 {
-    let mut t = 0;
-    while t < stored.len() {
-        if stored[t] != cut_word(k, computed, t) {
-            return false;
-        }
-        t += 1;
-    }
-    true
+    (0..stored.len()).all(|t| stored[t] == cut_word(k, computed, t))
 }
 
 // Whether the stored rows are the computed ones below column k, and 0 from there on.
@@ -98,14 +88,12 @@ fn same_terms(n: usize, k: usize, d: usize, stored: &[u32], computed: &[u32]) ->
     requires { (n ≤ largest_width) × (d ≤ largest_degree) × (length stored.now ≡ d * n) × (length computed.now ≡ d * n) × (k ≤ n) }
     ensures { Decides result (SameTerms n k d stored.now computed.now) }
 {
-    let mut j = 0;
-    while j < d {
+    for j in 0..d {
         let a = j * n;
         let e = a + n;
         if !same_row(k, &stored[a..e], &computed[a..e]) {
             return false;
         }
-        j += 1;
     }
     true
 }

@@ -4,15 +4,15 @@
 
 ghost use Rattle.std.specs.Prelude.{◌≡◌, ◌<◌, length};
 ghost use Rattle.numbers.specs.Words.{over};
-ghost use Rattle.numbers.specs.Refusals.{judge, outcome, outcome_after, written};
+ghost use Rattle.numbers.specs.Refusals.{judge, outcome, outcome_after, written, verdict};
 ghost use Rattle.layout.specs.Layout.{count};
 ghost use Rattle.sheet.specs.Sheet.{Sound};
 ghost use Rattle.sheet.specs.Test.{sound_test};
-ghost use Rattle.sheet.specs.Reading.{read_verdict, read_factor, factor_outcome, read_part, times_checks, times_size, times_words, shifted_checks, shifted_size, shifted_words};
+ghost use Rattle.sheet.specs.Reading.{read_verdict, read_factor, read_part, times_checks, times_size, times_words, shifted_checks, shifted_size, shifted_words};
 ghost use Rattle.sheet.specs.internal.Shape.{factor_shape};
 
 use front::rows_size;
-use numbers::refusal::{Answer, Refusal, Verdict, refuse};
+use numbers::refusal::Refusal;
 
 pub mod kernel; // the factors worked out, for callers that have judged
 
@@ -23,48 +23,39 @@ pub struct Factor {
     pub power: u32,
 }
 
-#[derive(Clone, Copy)]
-pub enum FactorAnswer {
-    Is(Factor),
-    Refused(Refusal),
-}
-
 // Whether the slice begins with a sound sheet.
 pub fn test(sheet: &[u32]) -> bool
     ensures { result ≡ sound_test sheet.now }
 {
-    let size = rows_size(sheet);
-    if size == 0 {
+    let Some(size) = rows_size(sheet) else {
         return false;
-    }
+    };
     let k = layout::read_header(sheet).terms;
     let mut rows = [0u32; layout::FACTORS_ROOM];
     kernel::factors_fit(sheet, k, &mut rows[..size])
 }
 
 // Refusals 13 and 16, which every way to read a factor begins with.
-pub fn check_read(sheet: &[u32], i: u32) -> Verdict
-    ensures { result ≡ read_verdict sheet.now i }
+pub fn check_read(sheet: &[u32], i: u32) -> Result<(), Refusal>
+    ensures { verdict result ≡ read_verdict sheet.now i }
 {
     if !test(sheet) {
-        return refuse(13, 0);
+        return Err(Refusal::Spoiled);
     }
     let h = layout::read_header(sheet);
     if h.count <= i as usize {
-        return refuse(16, 0);
+        return Err(Refusal::NoFactor);
     }
-    Verdict::Pass
+    Ok(())
 }
 
 // Factor i, counted from 0.
-pub fn read_factor(sheet: &[u32], i: u32) -> FactorAnswer
-    ensures { factor_outcome result ≡ outcome_after (read_verdict sheet.now i) (read_factor sheet.now i) }
+pub fn read_factor(sheet: &[u32], i: u32) -> Result<Factor, Refusal>
+    ensures { outcome result ≡ outcome_after (read_verdict sheet.now i) (read_factor sheet.now i) }
 {
-    if let Verdict::Refuse(r) = check_read(sheet, i) {
-        return FactorAnswer::Refused(r);
-    }
+    check_read(sheet, i)?;
     let at = i as usize;
-    FactorAnswer::Is(Factor {
+    Ok(Factor {
         root: layout::root_at(sheet, at),
         power: layout::power_at(sheet, at),
     })
@@ -74,7 +65,7 @@ pub fn read_factor(sheet: &[u32], i: u32) -> FactorAnswer
 pub fn factor_rows(sheet: &[u32], i: u32) -> &[u32]
     ensures { result.now ≡ read_part (read_verdict sheet.now i) sheet.now i }
 {
-    if let Verdict::Refuse(_) = check_read(sheet, i) {
+    if check_read(sheet, i).is_err() {
         return &sheet[..0];
     }
     layout::factor_part(sheet, i as usize)
@@ -103,14 +94,18 @@ fn factor_shape(sheet: &[u32], i: usize) -> Shape
 }
 
 // The rows of factor i, times g, of degree bound e.
-pub fn factor_times(sheet: &[u32], i: u32, e: u32, g: &[u32], out: &mut [u32]) -> Answer
+pub fn factor_times(
+    sheet: &[u32],
+    i: u32,
+    e: u32,
+    g: &[u32],
+    out: &mut [u32],
+) -> Result<u32, Refusal>
     ensures answer { outcome result ≡ outcome_after (judge (times_checks sheet.now i e g.now (length out.old))) (times_size sheet.now i e) }
     ensures words { out.new ≡ written (judge (times_checks sheet.now i e g.now (length out.old)))
         (over (times_words sheet.now i e g.now) out.old) out.old }
 {
-    if let Verdict::Refuse(r) = check_read(sheet, i) {
-        return Answer::Refused(r);
-    }
+    check_read(sheet, i)?;
     let at = i as usize;
     let f = factor_shape(sheet, at);
     let part = layout::factor_part(sheet, at);
@@ -118,14 +113,12 @@ pub fn factor_times(sheet: &[u32], i: u32, e: u32, g: &[u32], out: &mut [u32]) -
 }
 
 // The rows of factor i, at Y + c.
-pub fn factor_shift(sheet: &[u32], i: u32, c: u32, out: &mut [u32]) -> Answer
+pub fn factor_shift(sheet: &[u32], i: u32, c: u32, out: &mut [u32]) -> Result<u32, Refusal>
     ensures answer { outcome result ≡ outcome_after (judge (shifted_checks sheet.now i c (length out.old))) (shifted_size sheet.now i) }
     ensures words { out.new ≡ written (judge (shifted_checks sheet.now i c (length out.old)))
         (over (shifted_words sheet.now i c) out.old) out.old }
 {
-    if let Verdict::Refuse(r) = check_read(sheet, i) {
-        return Answer::Refused(r);
-    }
+    check_read(sheet, i)?;
     let at = i as usize;
     let f = factor_shape(sheet, at);
     let part = layout::factor_part(sheet, at);

@@ -1,5 +1,5 @@
 -- The checks of simple_roots, and the words that it writes.
---   multiple-is      what the loop finds is the first root of power above 1
+--   multiple-is      what is found is the first root of power above 1
 --   multiple-there, multiple-none, multiple-pass   refusal 22, by what is found; where it is not given every root has power 1
 --   multiple-least   22 is given exactly where there is a root of power above 1, with the least of these
 --   multiple-same    sheets with the same roots and powers are judged alike
@@ -26,10 +26,8 @@ use lib.Seq.{get_or-take, get_or-drop, length-take-le}
 use Rattle.algebra.proofs.Chain.{rising-all}
 use Rattle.numbers.specs.Words.{word, first_where, over, part}
 use Rattle.numbers.specs.internal.Facts.{AllBelow}
-use Rattle.numbers.specs.Refusals.{judge, refusal, room_check}
+use Rattle.numbers.specs.Refusals.{judge, refusal, room_check, Row, Pass, Refuse}
 use Rattle.numbers.specs.One.{TheOne, OneOutcome}
-use Rattle.numbers.specs.declared.refusal.Refusal.{Refusal}
-use Rattle.numbers.specs.declared.refusal.Verdict.TheVariants.{Pass, Refuse}
 use Rattle.numbers.proofs.WordsLaws.{lt-or-ge, first-is, first_range, first-before, first_found, true-false, length-tabulate, word-tabulate}
 use Rattle.numbers.proofs.RefusalsLaws.{after-pass, after-refuse, pass-parts, pass-check, take-check, skip-check, none-judged, not-pass}
 use Rattle.numbers.proofs.OneLaws.{verdict-one}
@@ -49,7 +47,7 @@ use Rattle.simple.specs.internal.Factors.{multiple_verdict, AllSimple, negated, 
 use Rattle.simple.proofs.ValueLaws.{root-ext}
 use Rattle.simple.proofs.RootLaws.{sum_ones, sheet-root, sheet-only}
 
--- the loop's answer
+-- what is found
 pub multiple-is : (s : List ℕ) (i : ℕ) → i ≤ count s → ((k : ℕ) → k < i → power s k ≤ 1) → (i < count s → 1 < power s i) → i ≡ first_multiple s
 unfolding first_multiple
 multiple-is s i high low at =
@@ -100,7 +98,7 @@ rise s sound i j h l =
     ⊎_elim (λ (e : i ≡ j). omega (arith, ap (root s) e)) (λ (u : i < j). omega (arith, rising-all (λ x. x) (count s) (root s) sound.factors.rising i j u l)) (eq-or-lt_of_le h)
 
 same-detail : {x y : ℕ} → Refuse (refusal 22 x) ≡ Refuse (refusal 22 y) → x ≡ y
-same-detail {x} {y} e = let z : refusal 22 x ≡ refusal 22 y = cc in ap (λ (r : Refusal). r.detail) z
+same-detail {x} {y} e = let z : refusal 22 x ≡ refusal 22 y = cc in ap (λ (r : Row). r.detail) z
 
 pub multiple-least : (s : List ℕ) → Sound s → (c : ℕ) → (judge (multiple_check s ∷ []) ≡ Refuse (refusal 22 c)) ↔ ((i : ℕ) × (i < count s) × (root s i ≡ c) × (1 < power s i) × ((j : ℕ) → j < count s → 1 < power s j → c ≤ root s j))
 unfolding multiple_verdict
@@ -143,7 +141,7 @@ module _ (s : List ℕ) (room : ℕ) where
   simple-spoiled h = spoiled-first s _ h
 
   module _ (sound : Sound s) where
-    pub simple-multiple : (r : Refusal) → multiple_verdict s ≡ Refuse r → simple_verdict s room ≡ Refuse r
+    pub simple-multiple : (r : Row) → multiple_verdict s ≡ Refuse r → simple_verdict s room ≡ Refuse r
     unfolding simple_verdict multiple_verdict
     simple-multiple r e = sound-first s _ sound ∙ after-refuse (multiple_check s ∷ []) (room_check room (count s * width s) ∷ []) r e
 

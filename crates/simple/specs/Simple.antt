@@ -13,8 +13,7 @@
 use Rattle.std.specs.Prelude.{ℕ, zero, suc, ◌-◌, ◌*◌, ◌≤◌, ◌<◌, ◌%◌, ◌≡◌, List, [], ◌∷◌, ltb, length}
 use Rattle.algebra.specs.Sums.{sum_to}
 use Rattle.numbers.specs.Words.{first_where, over}
-use Rattle.numbers.specs.Refusals.{Check, check, judge, Outcome, outcome_after, Leaves, room_check}
-use Rattle.numbers.specs.declared.refusal.Verdict.{Verdict}
+use Rattle.numbers.specs.Refusals.{Check, check, judge, Outcome, outcome_after, Leaves, room_check, Verdict}
 use Rattle.rows.specs.Rows.{unit}
 use Rattle.layout.specs.Layout.{rows_at, modulus, degree, width, terms, count, root, power, polynomial}
 use Rattle.sheet.specs.Reading.{sound_check}

@@ -1,5 +1,6 @@
 // The series of a sound sheet. These trust their caller: they have a `requires`, and are for the crates of this repository.
 ghost use Rattle.std.specs.Prelude.{◌≡◌, ◌*◌, ◌≤◌, length};
+ghost use Rattle.numbers.specs.Refusals.{verdict};
 ghost use Rattle.numbers.specs.internal.Facts.{AllBelow};
 ghost use Rattle.layout.specs.Layout.{width, count};
 ghost use Rattle.sheet.specs.Sheet.{Sound};
@@ -7,7 +8,7 @@ ghost use Rattle.simple.specs.Simple.{SeriesRoots, first_multiple};
 ghost use Rattle.simple.specs.internal.Factors.{multiple_verdict, AllSimple, negated};
 
 use layout::{power_at, read_header, root_at};
-use numbers::refusal::{Verdict, refuse};
+use numbers::refusal::Refusal;
 
 // The place of the first root of power above 1, or r.
 fn first_multiple(sheet: &[u32]) -> usize
@@ -15,27 +16,22 @@ fn first_multiple(sheet: &[u32]) -> usize
     ensures { result ≡ first_multiple sheet.now }
 {
     let h = read_header(sheet);
-    let mut i = 0;
-    while i < h.count {
-        if 1 < power_at(sheet, i) {
-            return i;
-        }
-        i += 1;
-    }
-    i
+    (0..h.count)
+        .find(|i| 1 < power_at(sheet, *i))
+        .unwrap_or(h.count)
 }
 
 // Refusal 22.
-pub fn check_multiple(sheet: &[u32]) -> Verdict
+pub fn check_multiple(sheet: &[u32]) -> Result<(), Refusal>
     requires { Sound sheet.now }
-    ensures { result ≡ multiple_verdict sheet.now }
+    ensures { verdict result ≡ multiple_verdict sheet.now }
 {
     let h = read_header(sheet);
     let i = first_multiple(sheet);
     if i < h.count {
-        return refuse(22, root_at(sheet, i));
+        return Err(Refusal::MultipleRoot(root_at(sheet, i)));
     }
-    Verdict::Pass
+    Ok(())
 }
 
 // Minus the words, modulo p.
@@ -43,10 +39,8 @@ fn negate(p: u32, words: &[u32], out: &mut [u32])
     requires { (1 ≤ p) × AllBelow p words.now × (length out.old ≡ length words.now) }
     ensures { out.new ≡ negated p words.now }
 {
-    let mut i = 0;
-    while i < words.len() {
+    for i in 0..words.len() {
         out[i] = (p - words[i]) % p;
-        i += 1;
     }
 }
 

@@ -2,43 +2,38 @@
 #![tactic(auto)]
 
 ghost use Rattle.std.specs.Prelude.{◌≡◌, length};
-ghost use Rattle.numbers.specs.Refusals.{outcome};
+ghost use Rattle.numbers.specs.Refusals.{outcome, verdict};
 ghost use Rattle.simple.specs.Simple.{simple_verdict, SimpleRoots};
 
 use crate::kernel::{check_multiple, write_roots};
 use layout::read_header;
-use numbers::refusal::{Answer, Verdict, refuse};
+use numbers::refusal::Refusal;
 
 pub mod kernel; // refusal 22, and the series of a sound sheet
 
 // Refusals 13, 22 and 10.
-fn check_simple(sheet: &[u32], room: usize) -> Verdict
-    ensures { result ≡ simple_verdict sheet.now room }
+fn check_simple(sheet: &[u32], room: usize) -> Result<(), Refusal>
+    ensures { verdict result ≡ simple_verdict sheet.now room }
 {
     if !sheet::test(sheet) {
-        return refuse(13, 0);
+        return Err(Refusal::Spoiled);
     }
-    let v = check_multiple(sheet);
-    if let Verdict::Refuse(_) = v {
-        return v;
-    }
+    check_multiple(sheet)?;
     let h = read_header(sheet);
     let words = h.count * h.width;
     if room < words {
-        return refuse(10, words as u32);
+        return Err(Refusal::Short(words as u32));
     }
-    Verdict::Pass
+    Ok(())
 }
 
 // The series of each root, a row of N words for each, in rising order of the root. The answer is r · N.
-pub fn simple_roots(sheet: &[u32], out: &mut [u32]) -> Answer
+pub fn simple_roots(sheet: &[u32], out: &mut [u32]) -> Result<u32, Refusal>
     ensures { SimpleRoots sheet.now out.old (outcome result) out.new }
 {
-    if let Verdict::Refuse(r) = check_simple(sheet, out.len()) {
-        return Answer::Refused(r);
-    }
+    check_simple(sheet, out.len())?;
     let h = read_header(sheet);
     let words = h.count * h.width;
     write_roots(sheet, &mut out[..words]);
-    Answer::Done(words as u32)
+    Ok(words as u32)
 }

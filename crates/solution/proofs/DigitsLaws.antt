@@ -52,9 +52,6 @@ pub record Expanding (p : ℕ) (c q : List ℕ) (i : ℕ) (e : List ℕ) : Type 
       ≡ plus p pos (newton (Fp p pos) (poly p pos (word c)) (poly p pos (word q)) (length c))
       (by p pos (lines (Fp p pos) (poly p pos (word c)) (length c)) (poly p pos (word (drop (length c) q))))
 
-pub expanding-none : (p : ℕ) (c q : List ℕ) → AllBelow p q → Expanding p c q (length c) q
-expanding-none p c q b = record { long = refl; below = b; kept = λ k l. refl; is = λ pos. refl }
-
 pub expanding-step : (p : ℕ) → 1 ≤ p → (c q : List ℕ) (i : ℕ) (e y : List ℕ) → AllBelow p c → i < length c → i < length q
     → Expanding p c q (suc i) e → y ≡ line_times p (word c i) (from e i) → Expanding p c q i (put_from i e y)
 expanding-step p one c q i e y bc l g h z =

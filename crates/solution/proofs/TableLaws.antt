@@ -5,7 +5,7 @@ use mathlib.Core.Logic.{⊎_elim, ◌⊎◌, inl, inr}
 use mathlib.Core.List.{List, ◌++◌}
 use Prim.Native.Nat.{ℕ, zero, suc, ◌+◌, ◌-◌, ◌*◌, ◌≤◌, ◌<◌, Fin}
 use native.Mathlib.Numerals.{add-one}
-use native.Mathlib.Nat.{mod-lt, eq-or-lt_of_le, mul-le-mul}
+use native.Mathlib.Nat.{mod-lt, eq-or-lt_of_le}
 use native.Mathlib.Omega.{arith}
 use borrow.Author.Tests.{lt-ltb, le-ltb}
 use lib.ListN.{length, take, drop, set, length-set, length-append, length-drop, get_or-append, get_or-eq_default}
@@ -26,7 +26,6 @@ use Rattle.numbers.proofs.WordsLaws.{lt-or-ge, length-tabulate, word-tabulate, f
 use Rattle.columns.specs.internal.Column.{first_only}
 use Rattle.columns.proofs.ColumnLaws.{put_from}
 use Rattle.algebra.proofs.SolutionLaws.{newton-ext, newton-zeros, mono-zero, mono-suc, mono-other, up-zero, up_suc, next-solves, next_low, next-high}
-use Rattle.numbers.specs.Limits.{most_rows}
 use Rattle.solution.proofs.DigitsLaws.{put-kept, put-drop, put-long, copied}
 use Rattle.solution.specs.internal.Table.{poly, plus, by, Expanded, Digits, low_of, high_of, Solution, Table, before_word, next_word, Lines, FirstSolution, Bases}
 
@@ -365,12 +364,6 @@ table_below p m k P A T n h x l = by_row (m + k) (m + k) (λ v. word T v < p) (p
 
 pub unit-room : (c s z : List ℕ) (v : ℕ) → length s ≡ length c + 1 → z ≡ tabulate (length s) (first_only 0) → length c ≤ length (set z v 1)
 unit-room c s z v n q = omega (arith, unit-long c s z v n q)
-
-pub cell-small : (n j : ℕ) → n ≤ most_rows → j < n → (j * n + n ≤ n * n) × (j * n + n ≤ 1089)
-cell-small n j h l =
-    let a = row_fits j n n l in
-    let b : n * n ≤ 33 * 33 = mul-le-mul {n₂ = 33} {m₂ = 33} h h in
-    (a, omega arith)
 
 pub solution-after : (p m k : ℕ) (P A row x : List ℕ) (n : length row ≡ m + k) (ex : x ≡ tabulate (length (take m row)) (next_word p (p - word row (m - 1)) P (take m row)))
     (y : List ℕ) → y ≡ tabulate (length (from (x ++ drop m row) m)) (next_word p (word row (m - 1)) A (from (x ++ drop m row) m)) → Bases p m k P A → AllBelow p row

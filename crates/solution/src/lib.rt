@@ -18,9 +18,7 @@ pub fn expand(p: u32, c: &[u32], e: &mut [u32])
     requires { (1 ≤ p) × (p < modulus_bound) × (length c.now ≤ length e.old) × AllBelow p c.now × AllBelow p e.old }
     ensures { Expanded p c.now e.old e.new }
 {
-    let mut i = c.len();
-    while 0 < i {
-        i -= 1;
+    for i in (0..c.len()).rev() {
         line_times(p, c[i], &mut e[i..]);
     }
 }
@@ -44,10 +42,8 @@ fn digits(p: u32, c: &[u32], a: &[u32], b: &mut [u32], e: &mut [u32])
     ensures scratch { length b.new ≡ length b.old }
     ensures is { Digits p c.now a.now (length c.now) e.old e.new }
 {
-    let mut l = 0;
-    while l < c.len() {
+    for l in 0..c.len() {
         digit(p, c[l], a, b, &mut e[l..]);
-        l += 1;
     }
 }
 
@@ -57,9 +53,7 @@ fn next_part(p: u32, q: u32, b: &[u32], e: &mut [u32])
     ensures { e.new ≡ tabulate (length e.old) (next_word p q b.now e.old) }
 {
     let modulus = p as u64;
-    let mut j = e.len();
-    while 1 < j {
-        j -= 1;
+    for j in (1..e.len()).rev() {
         e[j] = ((e[j - 1] as u64 + (q as u64) * (b[j] as u64)) % modulus) as u32;
     }
     e[0] = ((q as u64) * (b[0] as u64) % modulus) as u32;
@@ -118,13 +112,11 @@ pub fn fill_table(
     ensures { Table p m k (word p0.now) (word a0.now) (m + k) table.new }
 {
     let n = m + k;
-    let mut j = 0;
-    while j < n {
+    for j in 0..n {
         let a = j * n;
         let e = a + n;
         load_column(row, 1, 0, &mut table[a..e]);
         next_solution(p, m, k, p0, a0, row);
-        j += 1;
     }
 }
 

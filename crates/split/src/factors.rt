@@ -17,10 +17,8 @@ fn total(powers: &[u32]) -> usize
     ensures { result ≡ sum_to (length powers.now) (word powers.now) }
 {
     let mut sum = 0;
-    let mut i = 0;
-    while i < powers.len() {
-        sum += powers[i] as usize;
-        i += 1;
+    for power in powers {
+        sum += *power as usize;
     }
     sum
 }
@@ -30,16 +28,15 @@ fn half(powers: &[u32], degree: usize) -> usize
     requires { (2 ≤ length powers.now) × (length powers.now ≤ largest_degree) × ((i : ℕ) → i < length powers.now → word powers.now i ≤ largest_degree) }
     ensures { (1 ≤ result) × (result < length powers.now) }
 {
-    let mut i = 1;
+    let last = powers.len() - 1;
     let mut m = powers[0] as usize;
-    while i + 1 < powers.len() {
+    for i in 1..last {
         if degree < 2 * m + powers[i] as usize {
             return i;
         }
         m += powers[i] as usize;
-        i += 1;
     }
-    i
+    last
 }
 
 // The rows of a polynomial become those of its factors, to w terms.
@@ -65,12 +62,10 @@ fn spread(roots: &[u32], powers: &[u32], c: &mut [u32])
     ensures is { Spread roots.now powers.now (length powers.now) c.new }
 {
     let mut a = 0;
-    let mut i = 0;
-    while i < powers.len() {
-        let e = a + powers[i] as usize;
-        repeat(roots[i], &mut c[a..e]);
+    for (root, power) in roots.iter().zip(powers) {
+        let e = a + *power as usize;
+        repeat(*root, &mut c[a..e]);
         a = e;
-        i += 1;
     }
 }
 
@@ -79,12 +74,10 @@ fn begins(n: usize, line: &[u32], rows: &[u32]) -> bool
     requires { (1 ≤ n) × (n ≤ largest_width) × (1 ≤ length line.now) × (length line.now ≤ most_rows) × (length rows.now ≡ (length line.now - 1) * n) }
     ensures { Decides result ((j : ℕ) → j + 1 < length line.now → word rows.now (j * n) ≡ word line.now j) }
 {
-    let mut j = 0;
-    while j + 1 < line.len() {
+    for j in 0..line.len() - 1 {
         if rows[j * n] != line[j] {
             return false;
         }
-        j += 1;
     }
     true
 }

@@ -18,13 +18,7 @@ const MOST_CELLS: usize = 1089;
 fn tiles_pay(m: usize, k: usize, w: usize) -> bool
     ensures { result ≡ true → (4 ≤ m) × (4 ≤ k) }
 {
-    if m < 4 {
-        return false;
-    }
-    if k < 4 {
-        return false;
-    }
-    16 <= w
+    4 <= m && 4 <= k && 16 <= w
 }
 
 // Columns h to w − 1 of the split, by tiles where these pay.

@@ -1,17 +1,16 @@
--- Laws of a sheet's text: where its rows stand, that they have room and entries below p, and the loops over rows and factors.
+-- Laws of a sheet's text: where its rows stand, that they have room, and the loops over rows and factors.
 -- Assumes nothing.
 use Prim.Native.Nat.{ℕ, suc, ◌+◌, ◌-◌, ◌*◌, ◌≤◌, ◌<◌}
 use native.Mathlib.Nat.{mul-le-mul, suc-mul, add-mul}
 use native.Mathlib.Numerals.{add-one}
 use native.Mathlib.Omega.{arith}
-use mathlib.Core.Path.{◌≡◌, refl, sym, ap, ap₂, subst, ◌∙◌, fun_ext}
+use mathlib.Core.Path.{◌≡◌, refl, sym, ap, ap₂, ◌∙◌, fun_ext}
 use mathlib.Core.List.{List, ◌++◌}
 use lib.ListN.{length, take, drop, length-drop}
 use lib.Seq.{ext_get_or, get_or-take, get_or-drop, length-take-le}
 use Rattle.algebra.specs.Sums.{sum_to}
 use Rattle.algebra.proofs.SumsLaws.{sum_to-suc}
 use Rattle.numbers.specs.Words.{word, tabulate}
-use Rattle.numbers.specs.internal.Facts.{AllBelow}
 use Rattle.numbers.proofs.WordsLaws.{length-tabulate, word-tabulate}
 use Rattle.layout.proofs.PlacesLaws.{upto-power}
 use Rattle.layout.specs.Layout.{rows_at, modulus, degree, width, terms, count, root, power, factor, factors_from, factor_from}
@@ -54,10 +53,6 @@ module _ (profile : Profile) (p : ℕ) where
       (ap (λ (r : List ℕ). row_lines profile p n j (rows_at s from n) ++ row_line profile p j r) e ∙ sym (join-next j (λ i. row_line profile p i (tabulate n (rows_at s from n i)))))
       (omega (arith, ap length e, length-tabulate n (λ t. word s (from + j * n + t))))
 
-  pub rows_end : (s : List ℕ) (from n m j at : ℕ) {place : ℕ} {old out : List ℕ} → Puts (row_room * j) (row_lines profile p n j (rows_at s from n)) at old place out → j ≡ m
-      → Puts (row_room * m) (row_lines profile p n m (rows_at s from n)) at old place out
-  rows_end s from n m j at {place} {old} {out} f e = subst (λ (k : ℕ). Puts (row_room * k) (row_lines profile p n k (rows_at s from n)) at old place out) e f
-
 -- a row stands within its rows
 pub row_fits : (from m n j l : ℕ) → from + m * n ≤ l → j < m → from + j * n + n ≤ l
 row_fits from m n j l h g =
@@ -65,11 +60,6 @@ row_fits from m n j l h g =
     omega (arith, suc-mul j n)
 
 -- and its words are below p
-pub row_below : (p : ℕ) (s : List ℕ) (from n m j : ℕ) → Entries p s from n m → j < m → from + j * n + n ≤ length s
-    → AllBelow p (take (from + j * n + n - (from + j * n)) (drop (from + j * n) s))
-row_below p s from n m j e l h k g =
-    let g'' : k < n = omega (arith, row-long s (from + j * n) n h) in
-    subst (λ (r : List ℕ). word r k < p) (sym (row_is s (from + j * n) n h)) (rw (word-tabulate n (rows_at s from n j) k g'') (e.reduced j l k g''))
 
 -- rows of entries, by other names of their numbers
 pub entries-as : {s : List ℕ} {p o n m q u k l : ℕ} → p ≡ q → o ≡ u → n ≡ k → m ≡ l → Entries q s u k l → Entries p s o n m
@@ -120,12 +110,6 @@ module _ (s : List ℕ) (h : Listable s) where
   -- room for the next factor
   pub factors-room : (i : ℕ) → i < count s → root_room * i + row_room * sum_to i (power s) + (root_room + row_room * power s i) ≤ factors_room
   factors-room i l = omega (arith, upto-power s h.placed i l, h.degree-high, h.count-high)
-
-  pub factors-end : (i at : ℕ) {place : ℕ} {old out : List ℕ} → Puts (root_room * i + row_room * sum_to i (power s)) (join_to i (factor_text s)) at old place out → i ≡ count s
-      → Puts factors_room (join_to (count s) (factor_text s)) at old place out
-  factors-end i at f e =
-      let q = ap (λ (k : ℕ). sum_to k (power s)) e in
-      puts-as factors_room (join_to (count s) (factor_text s)) f (ap (λ (k : ℕ). join_to k (factor_text s)) e) (omega (arith, h.placed.powers-sum, h.degree-high, h.count-high))
 
 -- line 1, and then the factors, or the roots by the numbers that were read
 pub listing-put : (s : List ℕ) {mid next : ℕ} {old half new : List ℕ} → Puts head_room (head_line (modulus s) (terms s) (degree s) (count s)) 0 old mid half

@@ -1,4 +1,4 @@
--- Laws of putting text into a buffer: nothing, one byte more, one text after another; and of texts that a loop puts piece by piece.
+-- Laws of putting text into a buffer: nothing, one text after another; and of texts that a loop puts piece by piece.
 -- Assumes nothing.
 use Prim.Native.Nat.{ℕ, ◌+◌, ◌*◌, ◌≤◌, ◌<◌}
 use native.Mathlib.Nat.{add-zero}
@@ -6,8 +6,8 @@ use native.Mathlib.Numerals.{add-one}
 use native.Mathlib.Omega.{arith}
 use mathlib.Core.Path.{◌≡◌, refl, sym, ap, subst, ◌∙◌}
 use mathlib.Core.List.{List, [], ◌∷◌, ◌++◌, append_assoc, append-nil}
-use lib.ListN.{length, take, drop, set, length-append, length-set, take-append-drop}
-use lib.Seq.{set_split, take_at, drop_at, drop-drop, take-suc, take_all, length-take-le}
+use lib.ListN.{length, take, drop, length-append, take-append-drop}
+use lib.Seq.{take_at, drop_at, drop-drop, take-suc, length-take-le}
 use Rattle.numbers.specs.Words.{word}
 use Rattle.text.specs.declared.Profile.{Profile}
 use Rattle.text.specs.internal.Putting.{Puts}
@@ -19,16 +19,6 @@ puts_none at old h = record {
   answers = omega arith;
   leaves = sym (rw add-zero (take-append-drop at old));
   long = refl;
-  fits = omega arith;
-  within = omega arith;
-}
-
--- one byte
-pub puts-byte : (at : ℕ) (old : List ℕ) (v : ℕ) → at < length old → Puts 1 (v ∷ []) at old (at + 1) (set old at v)
-puts-byte at old v h = record {
-  answers = omega arith;
-  leaves = rw add-one (set_split old at v h);
-  long = length-set old at v;
   fits = omega arith;
   within = omega arith;
 }
@@ -62,23 +52,6 @@ puts-within {m} {at} {a} {x} {old} {new} n y f e h =
 pub puts-as : {m at a : ℕ} {x old new : List ℕ} (n : ℕ) (y : List ℕ) → Puts m x at old a new → x ≡ y → m ≤ n → Puts n y at old a new
 puts-as n y f e h = puts-within n y f e (omega (arith, f.within, ap length e))
 
-pub puts-at : {n at a : ℕ} {x old new : List ℕ} (b : ℕ) → Puts n x at old a new → a ≡ b → Puts n x at old b new
-puts-at {n} {at} {a} {x} {old} {new} b f e = subst (λ (k : ℕ). Puts n x at old k new) e f
-
--- a loop that copies: at its start, one byte further, and at its end
-pub copy-none : (bytes : List ℕ) (at : ℕ) (old : List ℕ) → at ≤ length old → Puts 0 (take 0 bytes) at old (at + 0) old
-copy-none bytes at old h = puts-at (at + 0) (puts_none at old h) (omega arith)
-
-pub copy-next : (bytes : List ℕ) (at : ℕ) (old out : List ℕ) (i : ℕ) → Puts i (take i bytes) at old (at + i) out → i < length bytes → at + i < length old
-    → Puts (i + 1) (take (i + 1) bytes) at old (at + (i + 1)) (set out (at + i) (word bytes i))
-copy-next bytes at old out i f l h =
-    puts-at (at + (i + 1)) (puts-as (i + 1) (take (i + 1) bytes) (puts_then f (puts-byte (at + i) out (word bytes i) (omega (arith, f.long))))
-    (sym (rw add-one (take-suc bytes i 0 l))) (omega arith)) (omega arith)
-
-pub copy-all : (bytes : List ℕ) (at : ℕ) (old out : List ℕ) (i : ℕ) → Puts i (take i bytes) at old (at + i) out → length bytes ≤ i → i ≤ length bytes
-    → Puts (length bytes) bytes at old (at + i) out
-copy-all bytes at old out i f h l = puts-as (length bytes) bytes f (take_all i bytes h) l
-
 -- a loop that puts entries: at its start, one entry further, and at its end
 module _ (profile : Profile) (p : ℕ) where
   -- the entries up to the next one
@@ -99,10 +72,6 @@ module _ (profile : Profile) (p : ℕ) where
   more-on s i at l f b g =
       puts-as (11 * (i + 1)) (more_numbers profile p (take (i + 1) s)) (puts_then f (puts_then b g))
       (sym (rw add-one (ap (more_numbers profile p) (take-suc s i 0 l) ∙ more-next (take i s) (word s i)))) (omega arith)
-
-  pub more-end : (s : List ℕ) (i at : ℕ) {place : ℕ} {old out : List ℕ} → Puts (11 * i) (more_numbers profile p (take i s)) at old place out → length s ≤ i → i ≤ length s
-      → Puts (11 * length s) (more_numbers profile p s) at old place out
-  more-end s i at f h l = puts-as (11 * length s) (more_numbers profile p s) f (ap (more_numbers profile p) (take_all i s h)) (omega arith)
 
 pub join-next : (n : ℕ) (f : ℕ → List ℕ) → join_to (n + 1) f ≡ join_to n f ++ f n
 unfolding join_to

@@ -3,6 +3,7 @@
 
 ghost use Rattle.std.specs.Prelude.{◌++◌, ◌+◌, ◌*◌, ◌≤◌, ◌<◌, length};
 ghost use Rattle.numbers.specs.Limits.{largest_modulus};
+ghost use Rattle.numbers.specs.Refusals.{number, detail};
 ghost use Rattle.numbers.specs.internal.Facts.{AllBelow};
 ghost use Rattle.signed.specs.Signed.{signed_of};
 ghost use Rattle.layout.specs.Layout.{rows_at, lengths_from, modulus, degree, width, terms, count, power};
@@ -12,6 +13,8 @@ ghost use Rattle.text.specs.internal.Rooms.{refusal_room, head_room, root_room, 
 ghost use Rattle.text.specs.Decimal.{digits};
 ghost use Rattle.text.specs.internal.Putting.{Puts, Entries, Listable};
 ghost use Rattle.text.specs.Text.{signed_text, number_text, more_numbers, join_to, row_name, row_line, row_lines, root_line, head_line, factor_text, listing_text, roots_text, refused_text};
+
+use numbers::refusal::Refusal;
 
 // What a listing shows of a sheet: its factors, or its roots as series.
 #[derive(Clone, Copy)]
@@ -25,12 +28,9 @@ pub fn put(bytes: &[u8], at: usize, out: &mut [u8]) -> usize
     requires { at + length bytes.now ≤ length out.old }
     ensures { Puts (length bytes.now) bytes.now at out.old result out.new }
 {
-    let mut i = 0;
-    while i < bytes.len() {
-        out[at + i] = bytes[i];
-        i += 1;
-    }
-    at + i
+    let end = at + bytes.len();
+    out[at..end].copy_from_slice(bytes);
+    end
 }
 
 // A number has at most ten digits. They are found from the last one on, so they are put down in their order only once all are there.
@@ -68,9 +68,10 @@ fn put_signed(p: u32, v: u32, at: usize, out: &mut [u8]) -> usize
     let x = signed::representative(p, v);
     if x < 0 {
         let after_minus = put(b"-", at, out);
-        return put_decimal((-x) as u32, after_minus, out);
+        put_decimal((-x) as u32, after_minus, out)
+    } else {
+        put_decimal(x as u32, at, out)
     }
-    put_decimal(x as u32, at, out)
 }
 
 // An entry v.
@@ -90,11 +91,9 @@ fn put_more(profile: Profile, p: u32, words: &[u32], at: usize, out: &mut [u8]) 
     ensures { Puts (11 * length words.now) (more_numbers profile p words.now) at out.old result out.new }
 {
     let mut place = at;
-    let mut i = 0;
-    while i < words.len() {
+    for v in words {
         let after_blank = put(b" ", place, out);
-        place = put_number(profile, p, words[i], after_blank, out);
-        i += 1;
+        place = put_number(profile, p, *v, after_blank, out);
     }
     place
 }
@@ -156,6 +155,14 @@ pub fn put_refusal(number: u32, detail: u32, out: &mut [u8]) -> usize
     put(b"\n", after_detail, out)
 }
 
+// The same of a refusal by its name.
+pub fn put_refused(refusal: Refusal, out: &mut [u8]) -> usize
+    requires { refusal_room ≤ length out.old }
+    ensures { Puts refusal_room (refused_text (number refusal) (detail refusal)) 0 out.old result out.new }
+{
+    put_refusal(refusal.number(), refusal.detail(), out)
+}
+
 // The lines of m rows of n words, which stand in `words` from word `from` on.
 fn put_rows(
     profile: Profile,
@@ -171,12 +178,10 @@ fn put_rows(
     ensures { Puts (row_room * m) (row_lines profile p n m (rows_at words.now from n)) at out.old result out.new }
 {
     let mut place = at;
-    let mut j = 0;
-    while j < m {
+    for j in 0..m {
         let start = from + j * n;
         let end = start + n;
         place = put_row(profile, p, j as u32, &words[start..end], place, out);
-        j += 1;
     }
     place
 }
@@ -208,12 +213,9 @@ fn put_factors(sheet: &[u32], at: usize, out: &mut [u8]) -> usize
     ensures { Puts factors_room (join_to (count sheet.now) (factor_text sheet.now)) at out.old result out.new }
 {
     let h = layout::read_header(sheet);
-    let count = h.count;
     let mut place = at;
-    let mut i = 0;
-    while i < count {
+    for i in 0..h.count {
         place = put_factor(sheet, i, place, out);
-        i += 1;
     }
     place
 }

@@ -7,8 +7,7 @@ use Rattle.algebra.specs.Sums.{sum_to}
 use Rattle.numbers.specs.Limits.{largest_modulus}
 use Rattle.numbers.specs.Words.{outside, first_where, first_nonzero, first_large, all_to, all, all_where, tabulate, each, least}
 use Rattle.numbers.specs.Divisor.{least_divisor, inverse_of}
-use Rattle.numbers.specs.Refusals.{check, refusal, judge, modulus_checks}
-use Rattle.numbers.specs.declared.refusal.Verdict.TheVariants.{Pass, Refuse}
+use Rattle.numbers.specs.Refusals.{check, refusal, judge, modulus_checks, Pass, Refuse}
 use Rattle.numbers.proofs.DivisorLaws.{least-is, trial-none, trial-prime}
 use Rattle.numbers.proofs.RefusalsLaws.{take-check, modulus-fine, modulus-composite}
 use Rattle.series.specs.Known.{known_to, rows_known}

@@ -10,9 +10,8 @@ use borrow.Author.Tests.{eqb-true, eqb-false, eq-eqb, leb-false}
 use Rattle.series.proofs.CheckLaws.{one_below}
 use Rattle.algebra.proofs.FpLaws.{p-pos}
 use Rattle.numbers.specs.Words.{word, tabulate}
-use Rattle.numbers.specs.Refusals.{judge, operation_checks, input_checks}
+use Rattle.numbers.specs.Refusals.{judge, operation_checks, input_checks, Pass}
 use Rattle.numbers.specs.One.{TheOne}
-use Rattle.numbers.specs.declared.refusal.Verdict.TheVariants.{Pass}
 use Rattle.numbers.proofs.WordsLaws.{word-tabulate, tabulate-ext, least_at, least-there}
 use Rattle.numbers.proofs.TestsLaws.{rising-are}
 use Rattle.numbers.proofs.ListedLaws.{where-listed}

@@ -7,8 +7,7 @@
 use Rattle.std.specs.Prelude.{ℕ, ◌-◌, ◌≡◌, true, List, [], ◌∷◌, ◌++◌, pos, negsuc}
 use Rattle.std.proofs.Math.Option.{some}
 use Rattle.numbers.specs.Words.{word, tabulate}
-use Rattle.numbers.specs.Refusals.{judge, refusal, accepted, refused, modulus_checks}
-use Rattle.numbers.specs.declared.refusal.Verdict.TheVariants.{Pass, Refuse}
+use Rattle.numbers.specs.Refusals.{judge, refusal, accepted, refused, modulus_checks, Pass, Refuse}
 use Rattle.series.specs.Series.{known_checks, sums, product}
 use Rattle.series.specs.Quotient.{least_power, quotient_checks, quotient_words}
 use Rattle.rows.specs.Rows.{row_shift}

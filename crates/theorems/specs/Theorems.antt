@@ -6,9 +6,8 @@ use Rattle.algebra.specs.Prime.{Prime}
 use Rattle.algebra.specs.Sums.{sum_to}
 use Rattle.numbers.specs.Words.{word, rising, tabulate}
 use Rattle.numbers.specs.Divisor.{inverse_of}
-use Rattle.numbers.specs.Refusals.{judge, refusal, Outcome, accepted, unreduced}
+use Rattle.numbers.specs.Refusals.{judge, refusal, Outcome, accepted, unreduced, Pass, Refuse}
 use Rattle.numbers.specs.One.{TheOne, One, OneOutcome}
-use Rattle.numbers.specs.declared.refusal.Verdict.TheVariants.{Pass, Refuse}
 use Rattle.series.specs.Known.{KnownTo, known_to}
 use Rattle.series.specs.Series.{IsSeries, series_checks, inverse_checks, sums, product_column, product, quotient}
 use Rattle.series.specs.Quotient.{least_power, quotient_checks, IsQuotient, Divided, quotient_words}

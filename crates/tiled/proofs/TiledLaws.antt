@@ -26,7 +26,8 @@ use Rattle.columns.proofs.ColumnLaws.{put, put-long, put-before, put_in, put-pas
 use Rattle.columns.proofs.SolveLaws.{pass-ext, pass-turn}
 use Rattle.solution.specs.internal.Table.{left_at}
 use Rattle.tiles.specs.internal.Tile.{tile_at, tile_row, TilePut}
-use Rattle.tiled.specs.internal.Tiled.{lane_sum, lane_term, tile_sums, Tiled, ColumnPut, Beside, Sizes, Room}
+use Rattle.tiled.specs.internal.Tiled.{lane_sum, lane_term, tile_sums, Tiled, ColumnPut, Beside, Stands, Sizes, Room}
+use Rattle.tiled.specs.declared.Tiling.{Tiling}
 use Rattle.tiles.proofs.TileLaws.{word_fits, lane}
 use Rattle.solution.proofs.StepLaws.{same_or_not, left_below}
 
@@ -338,9 +339,13 @@ nothing N a m b k blocks rows pairs tiles np nt bp bt = record {
   high = λ s lo hi. absurd (let z : ⊥ = omega arith in z);
 }
 
-pub tiled-none : (N m k paired blocks high : ℕ) (rows cells pairs tiles : List ℕ) → (paired ≡ m) ⊎ (paired ≡ k) → Room N m k paired blocks high cells pairs tiles
-    → Beside N m k paired blocks 1 rows pairs tiles
-tiled-none N m k paired blocks high rows cells pairs tiles side r =
+pub tiled-none : (g : Tiling) (rows cells pairs tiles : List ℕ) → (g.paired ≡ g.m) ⊎ (g.paired ≡ g.k) → Room g cells pairs tiles → Stands g 1 rows pairs tiles
+tiled-none g rows cells pairs tiles side r =
+    let N = g.n in
+    let m = g.m in
+    let k = g.k in
+    let paired = g.paired in
+    let blocks = g.blocks in
     ⊎_elim
     (λ (e : paired ≡ m). inl (e, nothing N 0 m m k blocks rows pairs tiles (r.pairs-long ∙ ap (λ x. x * (2 * N)) e) r.tiles-long r.pairs_below r.tiles-below))
     (λ (ne : paired ≡ m → ⊥).
@@ -403,6 +408,10 @@ pub tiles-few : (k b : ℕ) → k ≤ 8 * b → (k + 7) / 8 ≤ b
 tiles-few k b l = omega (arith, div-add-mod' (k + 7) 8, mod-lt (k + 7) {m = 8} (omega arith))
 
 module _ (N m k paired : ℕ) (width : N ≤ largest_width) (few : m ≤ 31) (lanes : k ≤ 31) (room : m + k ≤ most_rows) (side : (paired ≡ m) ⊎ (paired ≡ k)) where
+  -- the tiling that is made of them
+  abbrev pub made : ℕ → Tiling
+  made p = record { p = p; m = m; k = k; n = N; paired = paired; blocks = (m + k - paired + 7) / 8; high = (m + k + 7) / 8 }
+
   paired-few : (paired ≤ 31) × (m + k - paired ≤ 31)
   paired-few = ⊎_elim (λ (e : paired ≡ m). (omega arith, omega arith)) (λ (e : paired ≡ k). (omega arith, omega arith)) side
 
@@ -415,9 +424,9 @@ module _ (N m k paired : ℕ) (width : N ≤ largest_width) (few : m ≤ 31) (la
   pub tiles-fit : (m + k - paired + 7) / 8 * (8 * N) ≤ 8192
   tiles-fit = let z : (m + k - paired + 7) / 8 * (8 * N) ≤ 4 * 2048 = mul-le-mul {n₂ = 4} {m₂ = 2048} (tiles-few (m + k - paired) 4 (omega (arith, paired-few.1))) (omega arith) in omega arith
 
-  pub room-made : (a b c : ℕ) → (m + k + 7) / 8 * (8 * (m + k + 1)) ≤ a → paired * (2 * N) ≤ b → (m + k - paired + 7) / 8 * (8 * N) ≤ c
-      → Room N m k paired ((m + k - paired + 7) / 8) ((m + k + 7) / 8) (take ((m + k + 7) / 8 * (8 * (m + k + 1))) (blank a)) (take (paired * (2 * N)) (blank b)) (take ((m + k - paired + 7) / 8 * (8 * N)) (blank c))
-  room-made a b c la lb lc = record {
+  pub room-made : (p a b c : ℕ) → (m + k + 7) / 8 * (8 * (m + k + 1)) ≤ a → paired * (2 * N) ≤ b → (m + k - paired + 7) / 8 * (8 * N) ≤ c
+      → Room (made p) (take ((m + k + 7) / 8 * (8 * (m + k + 1))) (blank a)) (take (paired * (2 * N)) (blank b)) (take ((m + k - paired + 7) / 8 * (8 * N)) (blank c))
+  room-made p a b c la lb lc = record {
     cells-long = lent-long a _ la;
     pairs-long = lent-long b _ lb;
     tiles-long = lent-long c _ lc;
@@ -426,7 +435,7 @@ module _ (N m k paired : ℕ) (width : N ≤ largest_width) (few : m ≤ 31) (la
     tiles-below = lent_below c ((m + k - paired + 7) / 8 * (8 * N));
   }
 
-  pub sizes-are : (p : ℕ) → 1 ≤ p → p < modulus_bound → 1 ≤ m → Sizes p N m k paired ((m + k - paired + 7) / 8) ((m + k + 7) / 8)
+  pub sizes-are : (p : ℕ) → 1 ≤ p → p < modulus_bound → 1 ≤ m → Sizes (made p)
   sizes-are p pos small low = record {
     some = pos;
     small = small;

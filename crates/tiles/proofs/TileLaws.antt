@@ -1,6 +1,6 @@
 -- Eight sums at a time: that they fit, and one step after another; rows of tiles, and a column put into them.
 -- Assumes nothing.
-use mathlib.Core.Path.{◌≡◌, refl, sym, ap, ap₂, subst, ◌∙◌}
+use mathlib.Core.Path.{◌≡◌, sym, ap, ap₂, subst, ◌∙◌}
 use mathlib.Core.Logic.{⊎_elim}
 use mathlib.Core.List.{List, [], ◌∷◌, ◌++◌, append_assoc, append-nil}
 use Prim.Native.Nat.{ℕ, zero, suc, ◌+◌, ◌-◌, ◌*◌, ◌/◌, ◌%◌, ◌≤◌, ◌<◌}
@@ -17,7 +17,7 @@ use Rattle.numbers.specs.Limits.{largest_width}
 use Rattle.series.proofs.SeriesLaws.{word_below}
 use Rattle.rows.proofs.RowsLaws.{length_part, writing-whole, row_fits}
 use lib.Seq.{ext_get_or, get_or-set_same, get_or-set_other}
-use Rattle.tiles.specs.internal.Tile.{tile_step, tile_add, tile_sum, tile_at, tile_row, TileReady, TilePut}
+use Rattle.tiles.specs.internal.Tile.{tile_step, tile_add, tile_sum, tile_at, tile_row, TileReady}
 
 pub word_fits : (x y : ℕ) → x < modulus_bound → y < modulus_bound → x * y ≤ 281474943156225
 word_fits x y a b = let z : x * y ≤ 16777215 * 16777215 = mul-le-mul {n₂ = 16777215} {m₂ = 16777215} (omega arith) (omega arith) in omega arith
@@ -200,9 +200,6 @@ pub record Putting (width t : ℕ) (column old new : List ℕ) (n : ℕ) : Type 
   pub others : (s : ℕ) → s < width → (s ≡ t → ⊥) → (i : ℕ) → tile_at width new s i ≡ tile_at width old s i
   pub below : (q : ℕ) → 1 ≤ q → AllBelow q column → AllBelow q old → AllBelow q new
 
-pub put-none : (width t : ℕ) (column old : List ℕ) → Putting width t column old old 0
-put-none width t column old = record { long = refl; here = λ i l. omega arith; others = λ s h ne i. refl; below = λ q pos c b. b }
-
 pub put_next : (width t : ℕ) (column old new : List ℕ) (n v : ℕ) → t < width → cell width t n < length old → v ≡ word column n
     → Putting width t column old new n → Putting width t column old (set new (cell width t n) v) (n + 1)
 put_next width t column old new n v h room q w =
@@ -218,7 +215,3 @@ put_next width t column old new n v h room q w =
       others = λ s g ne i. get_or-set_other new k (cell width s i) v 0 (λ e. ne (cell_apart width s t i n g h e).0) ∙ w.others s g ne i;
       below = λ p pos c b. set_below p new k v (rw q (word_below p column pos c n)) (w.below p pos c b);
     }
-
-pub put_all : (width blocks t n : ℕ) (column old new : List ℕ) → Putting width t column old new n → n ≡ 8 * blocks → TilePut width blocks t column old new
-put_all width blocks t n column old new w q =
-    record { long = w.long; here = λ i l. w.here i (omega arith); others = λ s h ne i l. w.others s h ne i; below = w.below }

@@ -1,13 +1,12 @@
 -- The rows of a table as steps of tiles, and what a row of tiles with the weights adds up.
 -- Assumes nothing.
 use mathlib.Core.Path.{◌≡◌, refl, sym, ap, ap₂, subst, ◌∙◌}
-use mathlib.Core.Logic.{⊎_elim}
 use mathlib.Core.List.{List, ◌∷◌, ◌++◌}
 use Prim.Native.Nat.{ℕ, zero, suc, ◌+◌, ◌-◌, ◌*◌, ◌/◌, ◌%◌, ◌≤◌, ◌<◌}
-use native.Mathlib.Nat.{mul_comm, zero-add, add-zero, mul-add-div, div-eq_of_lt, eq-or-lt_of_le}
+use native.Mathlib.Nat.{mul_comm, zero-add, add-zero, mul-add-div, div-eq_of_lt}
 use native.Mathlib.Numerals.{add-one}
 use native.Mathlib.Omega.{arith}
-use lib.ListN.{length, take, drop, set}
+use lib.ListN.{length, drop, set}
 use lib.Seq.{drop_at}
 use Rattle.algebra.specs.Sums.{sum_to}
 use Rattle.algebra.proofs.SumsLaws.{sum_to-ext}
@@ -17,36 +16,16 @@ use Rattle.numbers.proofs.WordsLaws.{word-tabulate, tabulate-ext, tabulate-below
 use Rattle.numbers.specs.internal.Limits.{modulus_bound}
 use Rattle.series.proofs.SeriesLaws.{word_below}
 use Rattle.rows.specs.internal.Passes.{weight_sum}
-use Rattle.rows.proofs.RowsLaws.{length_part, writing-whole}
-use Rattle.tiles.specs.internal.Tile.{tile_at, tile_row, TilePut}
+use Rattle.rows.proofs.RowsLaws.{writing-whole}
+use Rattle.tiles.specs.internal.Tile.{tile_at, tile_row}
 use Rattle.tiles.specs.internal.Weights.{TableTiled, pair_word}
-use Rattle.tiles.proofs.TileLaws.{step_start, part-word, lane}
+use Rattle.tiles.proofs.TileLaws.{step_start, lane}
 
 -- The first j rows of the table are steps of the tiles.
 pub record Loading (n blocks : ℕ) (table tiles : List ℕ) (j : ℕ) : Type 0 where
   pub long : length tiles ≡ blocks * (8 * (n + 1))
   pub below : AllBelow modulus_bound tiles
   pub rows : (k : ℕ) → k < j → (i : ℕ) → i < n → tile_at (n + 1) tiles (n - k) i ≡ word table (k * n + i)
-
-pub load-none : (n blocks : ℕ) (table tiles : List ℕ) → length tiles ≡ blocks * (8 * (n + 1)) → AllBelow modulus_bound tiles → Loading n blocks table tiles 0
-load-none n blocks table tiles h b = record { long = h; below = b; rows = λ k l. absurd (let z : ⊥ = omega arith in z) }
-
-pub load-next : (n blocks j : ℕ) (table old new : List ℕ) → j < n → n ≤ 8 * blocks → j * n + n ≤ length table → AllBelow modulus_bound table
-    → Loading n blocks table old j → TilePut (n + 1) blocks (n - j) (take (j * n + n - j * n) (drop (j * n) table)) old new → Loading n blocks table new (j + 1)
-load-next n blocks j table old new l room fits b w put =
-    let long = length_part table (j * n) n fits in
-    record {
-      long = put.long ∙ w.long;
-      below = put.below modulus_bound (omega arith) (λ i h. rw (part-word table (j * n) n i (omega arith)) (b (j * n + i) (omega arith))) w.below;
-      rows = λ k h i g.
-          ⊎_elim
-          (λ (x : k ≡ j). rw x (put.here i (omega arith) ∙ part-word table (j * n) n i g))
-          (λ (x : k < j). put.others (n - k) (omega arith) (λ (e : n - k ≡ n - j). let z : ⊥ = omega arith in z) i (omega arith) ∙ w.rows k x i g)
-          (eq-or-lt_of_le {n = k} {m = j} (omega arith));
-    }
-
-pub load-all : (n blocks j : ℕ) (table tiles : List ℕ) → Loading n blocks table tiles j → j ≡ n → TableTiled n blocks table tiles
-load-all n blocks j table tiles w q = record { long = w.long; below = w.below; rows = λ k h i g. w.rows k (omega arith) i g }
 
 -- the loop is at the end of what it writes
 pub written : (n m : ℕ) (f : ℕ → ℕ) (s e : List ℕ) → Writing (tabulate n f) s e → n ≡ m → m ≡ length s → e ≡ tabulate m f

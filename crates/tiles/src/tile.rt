@@ -11,10 +11,8 @@ fn tile_step(x: &[u64], w: &[u64], a: &mut [u64])
     requires { (2 ≤ length x.now) × (8 ≤ length w.now) × (length a.old ≡ 8) × AllBelow modulus_bound x.now × AllBelow modulus_bound w.now × AllBelow 4611686018427387904 a.old }
     ensures { a.new ≡ tabulate 8 (tile_step x.now w.now a.old) }
 {
-    let mut l = 0;
-    while l < 8 {
+    for l in 0..8 {
         a[l] += ((x[l % 2] as u32) as u64) * ((w[l] as u32) as u64);
-        l += 1;
     }
 }
 
@@ -49,10 +47,8 @@ fn copy_lanes(from: &[u64], to: &mut [u64])
     requires { (length from.now ≡ 8) × (length to.old ≡ 8) }
     ensures { to.new ≡ from.now }
 {
-    let mut l = 0;
-    while l < 8 {
+    for l in 0..8 {
         to[l] = from[l];
-        l += 1;
     }
 }
 
@@ -74,13 +70,11 @@ pub fn tile_row(t: usize, width: usize, blocks: usize, y: &[u64], tiles: &[u64],
     ensures { a.new ≡ tabulate (8 * blocks) (tile_row t width y.now tiles.now a.old) }
 {
     let size = 8 * width;
-    let mut b = 0;
-    while b < blocks {
+    for b in 0..blocks {
         let k = b * size;
         let i = 8 * b;
         let e = i + 8;
         tile(t, y, &tiles[k..], &mut a[i..e]);
-        b += 1;
     }
 }
 
@@ -89,9 +83,10 @@ fn lane_word(column: &[u32], i: usize) -> u64
     ensures { result ≡ word column.now i }
 {
     if i < column.len() {
-        return column[i] as u64;
+        column[i] as u64
+    } else {
+        0
     }
-    0
 }
 
 // The words of a column, and 0 past them, become step t of the tiles.
@@ -101,10 +96,8 @@ pub fn put_column(column: &[u32], width: usize, t: usize, blocks: usize, tiles: 
 {
     let size = 8 * width;
     let lanes = 8 * blocks;
-    let mut i = 0;
-    while i < lanes {
+    for i in 0..lanes {
         let k = i / 8 * size + (8 * t + i % 8);
         tiles[k] = lane_word(column, i);
-        i += 1;
     }
 }

@@ -17,12 +17,10 @@ pub fn load_table(table: &[u32], n: usize, blocks: usize, tiles: &mut [u64])
         × AllBelow modulus_bound table.now × AllBelow modulus_bound tiles.old }
     ensures { TableTiled n blocks table.now tiles.new }
 {
-    let mut j = 0;
-    while j < n {
+    for j in 0..n {
         let a = j * n;
         let e = a + n;
         put_column(&table[a..e], n + 1, n - j, blocks, tiles);
-        j += 1;
     }
 }
 
@@ -33,13 +31,11 @@ fn pair_weights(weights: &[u32], pairs: &mut [u64])
 {
     pairs[0] = 0;
     pairs[1] = 0;
-    let mut s = 0;
-    while s < weights.len() {
+    for s in 0..weights.len() {
         let x = weights[s] as u64;
         let k = 2 * s + 2;
         pairs[k] = x;
         pairs[k + 1] = x;
-        s += 1;
     }
 }
 
@@ -47,11 +43,7 @@ fn pair_weights(weights: &[u32], pairs: &mut [u64])
 pub fn clear_sums(sums: &mut [u64])
     ensures { sums.new ≡ tabulate (length sums.old) (λ _. 0) }
 {
-    let mut i = 0;
-    while i < sums.len() {
-        sums[i] = 0;
-        i += 1;
-    }
+    sums.fill(0);
 }
 
 // The rows of the table in the tiles, each times its weight, added up. `pairs` and `sums` are for scratch.

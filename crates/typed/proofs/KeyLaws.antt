@@ -20,10 +20,7 @@ use borrow.Author.Tests.{ltb-false}
 use lib.ListN.{length, take, drop}
 use lib.Seq.{take_at, length-take-le}
 use Rattle.numbers.specs.Words.{outside, over}
-use Rattle.numbers.specs.Refusals.{check, judge, refusal, Outcome, accepted, refused, outcome_after, written, modulus_checks}
-use Rattle.numbers.specs.declared.refusal.Refusal.{Refusal}
-use Rattle.numbers.specs.declared.refusal.Verdict.{Verdict}
-use Rattle.numbers.specs.declared.refusal.Verdict.TheVariants.{Pass, Refuse}
+use Rattle.numbers.specs.Refusals.{check, judge, refusal, Outcome, accepted, refused, outcome_after, written, modulus_checks, Row, Verdict, Pass, Refuse}
 use Rattle.numbers.specs.One.{One}
 use Rattle.numbers.proofs.OneLaws.{one_same}
 use Rattle.numbers.proofs.RefusalsLaws.{after-pass, after-refuse, pass-parts, pass-check, take-check, skip-check, unlike, accepted-pass, neither, inside}
@@ -54,20 +51,18 @@ use Rattle.read.specs.Read.{reading_value, reading_high, read_degree, read_words
 use Rattle.typed.specs.Limits.{longest_input, rows_lent}
 use Rattle.typed.specs.Order.{Order, asks, none, unended, Orders}
 use Rattle.typed.specs.Key.{typed_given, order_checks, given_checks, key_verdict, TypedKey, KeyOf, IsKey, Keyed}
-use Rattle.typed.specs.declared.line.Line.{Line}
-use Rattle.typed.specs.declared.line.Line.TheVariants.{Asked, Other}
-use Rattle.typed.specs.internal.Line.{order_of, LineIs}
+use Rattle.typed.specs.internal.Line.{order_of}
 use Rattle.typed.specs.internal.Writing.{given_verdict, rows_given, WroteRows, WroteTyped, WroteKey}
 use Rattle.typed.proofs.OrderLaws.{order_is, long-none, same-order, one-order}
 
 -- the verdict on an order
 module _ (p N size : ℕ) (q : Reading) where
-  pub key-early : (r : Refusal) → judge (order_checks p N) ≡ Refuse r → key_verdict p N size q ≡ Refuse r
+  pub key-early : (r : Row) → judge (order_checks p N) ≡ Refuse r → key_verdict p N size q ≡ Refuse r
   unfolding key_verdict
   key-early r e = after-refuse (order_checks p N) _ r e
 
   module _ (early : judge (order_checks p N) ≡ Pass) where
-    pub key-read : (r : Refusal) → judge (read_checks p N size q rows_lent) ≡ Refuse r → key_verdict p N size q ≡ Refuse r
+    pub key-read : (r : Row) → judge (read_checks p N size q rows_lent) ≡ Refuse r → key_verdict p N size q ≡ Refuse r
     unfolding key_verdict
     key-read r e =
         after-pass (order_checks p N) _ early
@@ -128,7 +123,7 @@ told Pass x n d e = unlike x n d e
 told (Refuse r) x n d e = let a : r.number ≡ n = cc in let b : r.detail ≡ d = cc in ap₂ (λ (i j : ℕ). Refuse (refusal i j)) a b
 
 module _ (p n : ℕ) (typed : List ℕ) where
-  typed-line : {out new : List ℕ} {at : ℕ} (q : Reading) → Derives typed q → (r : Refusal) → key_verdict p n (length typed) q ≡ Refuse r → Puts refusal_room (refused_text r.number r.detail) 0 out at new
+  typed-line : {out new : List ℕ} {at : ℕ} (q : Reading) → Derives typed q → (r : Row) → key_verdict p n (length typed) q ≡ Refuse r → Puts refusal_room (refused_text r.number r.detail) 0 out at new
       → WroteTyped p n typed out at new
   typed-line q derived r e f = record {
     text = refused_text r.number r.detail;
@@ -136,14 +131,14 @@ module _ (p n : ℕ) (typed : List ℕ) where
     puts = puts-as text_room (refused_text r.number r.detail) f refl (omega arith);
   }
 
-  pub typed-early : {out new : List ℕ} {at : ℕ} (r : Refusal) → judge (order_checks p n) ≡ Refuse r → Puts refusal_room (refused_text r.number r.detail) 0 out at new → WroteTyped p n typed out at new
+  pub typed-early : {out new : List ℕ} {at : ℕ} (r : Row) → judge (order_checks p n) ≡ Refuse r → Puts refusal_room (refused_text r.number r.detail) 0 out at new → WroteTyped p n typed out at new
   typed-early r e f = let q = scan (lead bottom) typed in typed-line q (scan-derives typed) r (key-early p n (length typed) q r e) f
 
   module _ (early : judge (order_checks p n) ≡ Pass) (lent words : List ℕ) (a : Outcome ℕ) (room : length lent ≡ rows_lent) (h : ReadOf p n typed lent a words) where
     read-verdict : judge (read_checks p n (length typed) h.reading (length lent)) ≡ judge (read_checks p n (length typed) h.reading rows_lent)
     read-verdict = ap (λ (k : ℕ). judge (read_checks p n (length typed) h.reading k)) room
 
-    pub typed-refused : {out new : List ℕ} {at : ℕ} (r : Refusal) → a ≡ refused r.number r.detail → Puts refusal_room (refused_text r.number r.detail) 0 out at new → WroteTyped p n typed out at new
+    pub typed-refused : {out new : List ℕ} {at : ℕ} (r : Row) → a ≡ refused r.number r.detail → Puts refusal_room (refused_text r.number r.detail) 0 out at new → WroteTyped p n typed out at new
     typed-refused r is f =
         let v = told (judge (read_checks p n (length typed) h.reading (length lent))) (read_degree p n h.reading) r.number r.detail (sym is ∙ h.answers) in
         typed-line h.reading h.derived r (key-read p n (length typed) h.reading early r (sym read-verdict ∙ v)) f
@@ -181,12 +176,6 @@ pub order-terms : (p n : ℕ) → judge (order_checks p n) ≡ Pass → n ≤ mo
 order-terms p n e = (inside 1 most_width n (pass-check (check 4 (outside 1 most_width n) 0) [] (pass-parts (modulus_checks p) (check 4 (outside 1 most_width n) 0 ∷ []) e).1).0).1
 
 -- what the first line's answer says
-pub line-none : (o : Order) (s : List ℕ) (r : Line) → r ≡ Other → LineIs o s r → o ≡ none
-line-none o s r e h = subst (LineIs o s) e h
-
-pub line-asked : (o : Order) (s : List ℕ) (r : Line) (p n from : ℕ) → r ≡ Asked p n from → LineIs o s r → (from ≤ length s) × (o ≡ asks p n (unended (drop from s)))
-line-asked o s r p n from e h = subst (LineIs o s) e h
-
 -- the text of an input
 module _ (input : List ℕ) {out new : List ℕ} {at : ℕ} where
   key-line : Orders input none → Puts refusal_room (refused_text 17 0) 0 out at new → WroteKey input out at new

@@ -13,8 +13,7 @@
 -- Assumes nothing.
 use Rattle.std.specs.Prelude.{ℕ, ◌≤◌, ◌≡◌, List, [], ◌∷◌, ◌++◌, length}
 use Rattle.numbers.specs.Words.{outside, over}
-use Rattle.numbers.specs.Refusals.{Check, check, judge, Outcome, outcome_after, written, modulus_checks}
-use Rattle.numbers.specs.declared.refusal.Verdict.{Verdict}
+use Rattle.numbers.specs.Refusals.{Check, check, judge, Outcome, outcome_after, written, modulus_checks, Verdict}
 use Rattle.sheet.specs.Sheet.{Given, whole_of}
 use Rattle.open.specs.Open.{needed}
 use Rattle.open.specs.Find.{with_roots, find_checks}

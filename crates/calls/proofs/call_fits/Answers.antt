@@ -1,29 +1,30 @@
--- `calls::call_fits` meets its contract: at each `return` the tests that led there say what the definition says.
+-- `calls::call_fits` meets its contract: where each way through the tests ends, they say what the definition says.
 -- Assumes nothing.
-use mathlib.Core.Path.{sym}
-use Prim.Native.Nat.{◌*◌}
-use native.Mathlib.Omega.{arith}
+use mathlib.Core.Path.{sym, ◌∙◌}
+use borrow.Author.Tests.{eq-eqb, lt-leb, eqb-true, eqb-false}
 use Rattle.calls.proofs.ReplayLaws.{lends-beyond, fits-correct, kind-other, fourth-not, by-fifth}
 use Rattle.calls.proofs.call_fits.Goals as goal
+use Rattle.calls.proofs.call_fits.Goals.{then-calls-from-eq-EXTEND, else-calls-from-eq-EXTEND}
 
-pub overflow_cast-calls : goal.overflow_cast-calls
-overflow_cast-calls c = omega (arith, c.shared_slice_known-1.given (5 * c.args.i))
-
-pub returns-then-size-calls : goal.returns-then-size-calls
-returns-then-size-calls c = let a = c.args in sym (lends-beyond a.size a.calls.now a.i c.if-size-calls.true)
+pub returns-else-calls-from : goal.returns-else-calls-from
+returns-else-calls-from c = let a = c.args in lt-leb _ a.size c.if-calls-from.false ∙ sym (lends-beyond a.size a.calls.now a.i c.if-calls-from.false)
 
 pub returns-then-corrects : goal.returns-then-corrects
-returns-then-corrects c = let a = c.args in sym (fits-correct a.size a.calls.now a.i c.if-size-calls.false c.if-corrects.true)
+returns-then-corrects c = let a = c.args in eq-eqb _ 1 c.if-corrects.true ∙ sym (fits-correct a.size a.calls.now a.i c.if-calls-from.true c.if-corrects.true)
 
-pub returns-then-calls-from-ne-EXTEND : goal.returns-then-calls-from-ne-EXTEND
-returns-then-calls-from-ne-EXTEND c = let a = c.args in sym (kind-other a.size a.calls.now a.i c.if-size-calls.false c.if-corrects.false c.if-calls-from-ne-EXTEND.true)
-
-pub returns-then-calls-from-ne0 : goal.returns-then-calls-from-ne0
-returns-then-calls-from-ne0 c =
+pub returns-then-calls-from-eq0 : goal.returns-then-calls-from-eq0
+returns-then-calls-from-eq0 c =
     let a = c.args in
-    sym (fourth-not a.size a.calls.now a.i c.if-size-calls.false c.if-corrects.false c.if-calls-from-ne-EXTEND.false c.if-calls-from-ne0.true)
+    elim c.if-calls-from-eq-EXTEND.branch [
+      | then-calls-from-eq-EXTEND w ↦ sym (by-fifth a.size a.calls.now a.i c.if-calls-from.true c.if-corrects.false w.if-calls-from-eq-EXTEND.true (eqb-true _ 0 (sym w.value-is ∙ c.if-calls-from-eq0.true)))
+      | else-calls-from-eq-EXTEND w ↦ absurd (w.if-calls-from-eq-EXTEND.false (eqb-true _ 0 (sym w.value-is ∙ c.if-calls-from-eq0.true)))
+    ]
 
-pub returns : goal.returns
-returns c =
+pub returns-else-calls-from-eq0 : goal.returns-else-calls-from-eq0
+returns-else-calls-from-eq0 c =
     let a = c.args in
-    sym (by-fifth a.size a.calls.now a.i c.if-size-calls.false c.if-corrects.false c.if-calls-from-ne-EXTEND.false c.if-calls-from-ne0.false)
+    c.if-calls-from-eq0.false
+    ∙ elim c.if-calls-from-eq-EXTEND.branch [
+      | then-calls-from-eq-EXTEND w ↦ sym (fourth-not a.size a.calls.now a.i c.if-calls-from.true c.if-corrects.false w.if-calls-from-eq-EXTEND.true (eqb-false _ 0 (sym w.value-is ∙ c.if-calls-from-eq0.false)))
+      | else-calls-from-eq-EXTEND w ↦ sym (kind-other a.size a.calls.now a.i c.if-calls-from.true c.if-corrects.false w.if-calls-from-eq-EXTEND.false)
+    ]

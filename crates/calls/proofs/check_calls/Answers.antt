@@ -5,8 +5,7 @@ use mathlib.Core.Bool.{true}
 use Prim.Native.Nat.{ℕ}
 use native.Mathlib.Omega.{arith}
 use Rattle.numbers.specs.Words.{all_to}
-use Rattle.numbers.specs.Refusals.{refusal}
-use Rattle.numbers.specs.declared.refusal.Verdict.TheVariants.{Refuse}
+use Rattle.numbers.specs.Refusals.{refusal, Refuse}
 use Rattle.calls.specs.Replay.{call_count, call_fits}
 use Rattle.calls.proofs.ReplayLaws.{calls-broken, calls-unfit, calls-short, calls-pass}
 use Rattle.calls.proofs.check_calls.Goals as goal
@@ -19,17 +18,17 @@ fit : (b : step.Else2 tie.the-claims reads.Pre reads.Post) → let a = b.args in
 fit b = sym b.calls_fit.ensures ∙ b.if-not-calls_fit.false
 
 pub returns-then-calls-ne0 : goal.returns-then-calls-ne0
-returns-then-calls-ne0 c = let a = c.args in c.refuse.ensures ∙ sym (calls-broken a.size _ a.room c.if-calls-ne0.true)
+returns-then-calls-ne0 c = let a = c.args in sym (calls-broken a.size _ a.room c.if-calls-ne0.true)
 
 pub returns-then-not-calls_fit : goal.returns-then-not-calls_fit
 returns-then-not-calls_fit c =
     let a = c.args in
-    c.refuse-then-not-calls_fit.ensures ∙ sym (calls-unfit a.size _ a.room c.if-calls-ne0.false (sym c.calls_fit.ensures ∙ c.if-not-calls_fit.true))
+    sym (calls-unfit a.size _ a.room c.if-calls-ne0.false (sym c.calls_fit.ensures ∙ c.if-not-calls_fit.true))
 
 pub returns-then-room-count : goal.returns-then-room-count
 returns-then-room-count c =
     let a = c.args in
-    c.refuse-then-room-count.ensures ∙ ap (λ (x : ℕ). Refuse (refusal 10 x)) c.twice.ensures ∙ sym (calls-short a.size _ a.room c.if-calls-ne0.false (fit c.before.before.before.before) (omega arith))
+    ap (λ (x : ℕ). Refuse (refusal 10 x)) c.twice.ensures ∙ sym (calls-short a.size _ a.room c.if-calls-ne0.false (fit c.before.before.before) (omega arith))
 
 pub returns : goal.returns
 returns c =

@@ -1,8 +1,9 @@
 -- `calls::replay` meets its contract: the checks, then the calls.
 -- Assumes nothing.
-use mathlib.Core.Path.{◌≡◌, sym, ◌∙◌}
+use Rattle.numbers.proofs.RefusalsLaws.{told-pass, told-refuse, handed-up}
+use mathlib.Core.Path.{◌≡◌}
 use lib.ListN.{length}
-use Rattle.numbers.specs.declared.refusal.Verdict.TheVariants.{Pass}
+use Rattle.numbers.specs.Refusals.{Pass}
 use Rattle.calls.specs.Replay.{replay_verdict}
 use Rattle.calls.proofs.ReplayLaws.{calls-lent, replay-refused, replay-done}
 use Rattle.calls.proofs.replay.Goals as goal
@@ -11,11 +12,13 @@ use Rattle.calls.proofs.replay.Reads as reads
 use Rattle.calls.proofs.replay.Tie as tie
 
 -- the checks have passed
-passed : (b : step.Past-After-enum_told tie.the-claims reads.Pre reads.Post) → let a = b.args in replay_verdict (length a.sheet.now) a.calls.now (length a.answers.now) ≡ Pass
-passed b = sym b.check_calls.ensures ∙ b.in_default.is
+passed : (b : step.Past-After-known_told tie.the-claims reads.Pre reads.Post tie.handed_clauses) → let a = b.args in replay_verdict (length a.sheet.now) a.calls.now (length a.answers.now) ≡ Pass
+passed b = told-pass b.check_calls.ensures b.in_ok-check_calls.was
 
-pub returns-in-Refuse : goal.returns-in-Refuse
-returns-in-Refuse c = let a = c.args in replay-refused a.calls.now a.sheet.now a.answers.now _ (sym c.check_calls.ensures ∙ c.in-Refuse.is)
+pub returns-in_err-check_calls : goal.returns-in_err-check_calls
+returns-in_err-check_calls c =
+    let a = c.args in
+    rw (handed-up c.from_residual.ensures.1) (replay-refused a.calls.now a.sheet.now a.answers.now _ (told-refuse c.check_calls.ensures c.in_err-check_calls.was))
 
 pub make_calls-requires : goal.make_calls-requires
 make_calls-requires c =

@@ -2,7 +2,6 @@
 -- Assumes nothing.
 use Rattle.capi.specs.Packed.{packed}
 use mathlib.Core.Path.{ap, ◌∙◌}
-use borrow.Author.Rules.{rules}
 use Rattle.capi.proofs.bk_rows_difference.Goals as goal
 
 pub returns : goal.returns

@@ -3,7 +3,6 @@
 use mathlib.Core.Path.{◌≡◌, refl, ap, ◌∙◌}
 use mathlib.Core.Bool.{Bool, true, false, cond}
 use mir.Val.{bool_byte}
-use borrow.Author.Rules.{rules}
 use Rattle.capi.proofs.bk_sheet_test.Goals as goal
 
 as_number : (t : Bool) → bool_byte t ≡ cond t 1 0

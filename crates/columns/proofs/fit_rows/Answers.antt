@@ -26,43 +26,7 @@ row b =
 
 pub loop-j-init : goal.loop-j-init
 unfolding table
-loop-j-init c = (omega arith, writing-none _)
-
-pub overflow_mul-a : goal.overflow_mul-a
-overflow_mul-a c = omega (arith, row c.before)
-
-pub overflow_add-e : goal.overflow_add-e
-overflow_add-e c = omega (arith, row c.before)
-
-pub overflow_mul-b : goal.overflow_mul-b
-overflow_mul-b c = omega (arith, row c.before)
-
-pub overflow_add-c : goal.overflow_add-c
-overflow_add-c c = omega (arith, row c.before)
-
-pub offset_bounds-f-a : goal.offset_bounds-f-a
-offset_bounds-f-a c = omega (arith, row c.before)
-
-pub slice_bounds-fit_row-count : goal.slice_bounds-fit_row-count
-slice_bounds-fit_row-count c = omega (arith, row c.before)
-
-pub slice_bounds-fit_row-start : goal.slice_bounds-fit_row-start
-slice_bounds-fit_row-start c = omega (arith, row c.before)
-
-pub slice_bounds-fit_row-end : goal.slice_bounds-fit_row-end
-slice_bounds-fit_row-end c = omega (arith, row c.before)
-
-pub offset_bounds-out-b : goal.offset_bounds-out-b
-offset_bounds-out-b c = omega (arith, row c.before.before)
-
-pub slice_bounds-fit_row-count-in-loop-j : goal.slice_bounds-fit_row-count-in-loop-j
-slice_bounds-fit_row-count-in-loop-j c = omega (arith, row c.before.before)
-
-pub slice_bounds-fit_row-start-in-loop-j : goal.slice_bounds-fit_row-start-in-loop-j
-slice_bounds-fit_row-start-in-loop-j c = omega (arith, row c.before.before)
-
-pub slice_bounds-fit_row-end-in-loop-j : goal.slice_bounds-fit_row-end-in-loop-j
-slice_bounds-fit_row-end-in-loop-j c = omega (arith, row c.before.before)
+loop-j-init c = writing-none _
 
 pub loop-j-preserved : goal.loop-j-preserved
 loop-j-preserved c =
@@ -70,13 +34,13 @@ loop-j-preserved c =
     let l = c.loop-j in
     let z = row c.before.before.before.before.before.before in
     let q = c.fit_row.ensures
-    ∙ ap (λ (k : ℕ). tabulate k (word (take (l.j * a.n + a.n - l.j * a.n) (drop (l.j * a.n) a.f.now)))) (length_part l.out (l.j * a.w) a.w (omega (arith, l.invariant.1.long)))
+    ∙ ap (λ (k : ℕ). tabulate k (word (take (l.j * a.n + a.n - l.j * a.n) (drop (l.j * a.n) a.f.now)))) (length_part l.out (l.j * a.w) a.w (omega (arith, l.invariant.long)))
     ∙ fitted-row a.f.now l.j a.n a.w (omega arith) in
-    (omega arith, writing-row _ _ (fitted a.f.now a.n) _ _ _ l.invariant.1 q (omega arith))
+    writing-row _ _ (fitted a.f.now a.n) _ _ _ l.invariant q (omega arith)
 
 pub returns : goal.returns
 returns c =
     let a = c.args in
     let f : ℕ → ℕ → ℕ = fitted a.f.now a.n in
-    writing-rows _ _ _ f _ _ c.loop-j.invariant.1 (omega arith)
+    writing-rows _ _ _ f _ _ c.loop-j.invariant (omega arith)
     ∙ over-whole (table a.rows a.w f) a.out.now (omega (arith, length-table a.rows a.w f))

@@ -10,7 +10,7 @@ pub loop-t-init : goal.loop-t-init
 loop-t-init c =
     let a = c.args in
     let r = c.requires in
-    (omega arith, r.0.lent.from-high, r.1, r.2, split-none a.p a.n a.m a.k a.p0.now a.a0.now a.h a.rows.now r.0.lent.below r.0.first-low r.0.first-high)
+    (r.1, r.2, split-none a.p a.n a.m a.k a.p0.now a.a0.now a.h a.rows.now r.0.lent.below r.0.first-low r.0.first-high)
 
 pub split_column-requires : goal.split_column-requires
 split_column-requires c =
@@ -21,13 +21,13 @@ split_column-requires c =
       r.0.bases.small,
       r.0.bases.room,
       r.0.lent.width,
-      omega (arith, r.0.lent.from_low, l.invariant.0),
+      omega (arith, r.0.lent.from_low, l.auto.t),
       omega arith,
-      l.invariant.4.long ∙ r.0.lent.long,
+      l.invariant.2.long ∙ r.0.lent.long,
       r.0.table-long,
-      l.invariant.2,
-      l.invariant.3,
-      l.invariant.4.below,
+      l.invariant.0,
+      l.invariant.1,
+      l.invariant.2.below,
       r.0.table_below,
     )
 
@@ -36,21 +36,21 @@ loop-t-preserved c =
     let a = c.args in
     let r = c.requires in
     let l = c.loop-t in
-    let x = split_step a.p a.n a.m a.k a.p0.now a.a0.now a.table.now r.0.bases r.0.table_is l.t (omega (arith, r.0.lent.from_low, l.invariant.0)) (omega arith) l.rows _ c.split_column.ensures.is a.h l.invariant.0 a.rows.now l.invariant.4 (l.invariant.4.long ∙ r.0.lent.long) in
-    (omega arith, omega arith, c.split_column.ensures.scratch, c.split_column.ensures.buffer, x)
+    let x = split_step a.p a.n a.m a.k a.p0.now a.a0.now a.table.now r.0.bases r.0.table_is l.t (omega (arith, r.0.lent.from_low, l.auto.t)) (omega arith) l.rows _ c.split_column.ensures.is a.h l.auto.t a.rows.now l.invariant.2 (l.invariant.2.long ∙ r.0.lent.long) in
+    (c.split_column.ensures.scratch, c.split_column.ensures.buffer, x)
 
 pub shape_of-e : goal.shape_of-e
-shape_of-e c = c.loop-t.invariant.2 ∙ sym c.requires.1
+shape_of-e c = c.loop-t.invariant.0 ∙ sym c.requires.1
 
 pub shape_of-column : goal.shape_of-column
-shape_of-column c = c.loop-t.invariant.3 ∙ sym c.requires.2
+shape_of-column c = c.loop-t.invariant.1 ∙ sym c.requires.2
 
 pub shape_of-rows : goal.shape_of-rows
-shape_of-rows c = c.loop-t.invariant.4.long
+shape_of-rows c = c.loop-t.invariant.2.long
 
 pub returns : goal.returns
 returns c =
     let a = c.args in
     let l = c.loop-t in
-    let e : l.t ≡ a.w = omega arith in
-    subst (λ x. SplitTo a.p a.n a.m a.k a.p0.now a.a0.now a.h x a.rows.now l.rows) e l.invariant.4
+    let e : l.t ≡ a.w = omega (arith, c.requires.0.lent.from-high) in
+    subst (λ x. SplitTo a.p a.n a.m a.k a.p0.now a.a0.now a.h x a.rows.now l.rows) e l.invariant.2

@@ -4,7 +4,7 @@ use mathlib.Core.Path.{◌≡◌, ◌∙◌, sym, ap, subst}
 use Prim.Native.Nat.{◌≤◌}
 use native.Mathlib.Omega.{arith}
 use Rattle.numbers.specs.Words.{outside}
-use Rattle.numbers.proofs.RefusalsLaws.{not-pass, inside}
+use Rattle.numbers.proofs.RefusalsLaws.{inside}
 use Rattle.layout.specs.Layout.{reach}
 use Rattle.sheet.specs.Sheet.{Sound}
 use Rattle.sheet.specs.internal.Stages.{Computed}
@@ -17,8 +17,7 @@ use Rattle.extend.proofs.check_extend.Tie as tie
 pub returns-then-not-factors_fit : goal.returns-then-not-factors_fit
 returns-then-not-factors_fit c =
     let a = c.args in
-    let v = c.refuse.ensures in
-    record { verdict = v ∙ sym (extend-spoiled a.sheet.now a.w (c.factors_fit.ensures.sound.no (c.if-not-factors_fit.true))); rows = λ e. not-pass _ (sym v ∙ e) }
+    record { verdict = sym (extend-spoiled a.sheet.now a.w (c.factors_fit.ensures.sound.no (c.if-not-factors_fit.true))); rows = tt }
 
 sound : (b : step.Else1 tie.the-claims reads.Pre reads.Post tie.handed_clauses) → Sound b.args.sheet.now
 sound b = b.factors_fit.ensures.sound.yes (b.if-not-factors_fit.false)
@@ -30,8 +29,7 @@ tested b = b.outside.ensures ∙ ap (λ n. outside 1 n b.args.w) b.read_header-h
 pub returns-then-outside : goal.returns-then-outside
 returns-then-outside c =
     let a = c.args in
-    let v = c.refuse-then-outside.ensures in
-    record { verdict = v ∙ sym (extend-outside a.sheet.now a.w (sound c.before.before.before.before.before) (sym (tested c.before.before.before) ∙ c.if-outside.true)); rows = λ e. not-pass _ (sym v ∙ e) }
+    record { verdict = sym (extend-outside a.sheet.now a.w (sound c.before.before.before.before) (sym (tested c.before.before) ∙ c.if-outside.true)); rows = tt }
 
 range : (b : step.Else2 tie.the-claims reads.Pre reads.Post tie.handed_clauses) → let a = b.args in (1 ≤ a.w) × (a.w ≤ reach a.sheet.now)
 range b = inside 1 _ _ (sym (tested b.before) ∙ b.if-outside.false)
@@ -39,10 +37,9 @@ range b = inside 1 _ _ (sym (tested b.before) ∙ b.if-outside.false)
 pub returns-then-w-h : goal.returns-then-w-h
 returns-then-w-h c =
     let a = c.args in
-    let v = c.refuse-then-w-h.ensures in
-    let (low, high) = range c.before.before.before.before in
+    let (low, high) = range c.before.before.before in
     let e = c.read_header-h.ensures.terms-is in
-    record { verdict = v ∙ sym (extend-behind a.sheet.now a.w (sound c.before.before.before.before.before.before.before) low high (omega (arith, c.if-w-h.true))); rows = λ e. not-pass _ (sym v ∙ e) }
+    record { verdict = sym (extend-behind a.sheet.now a.w (sound c.before.before.before.before.before.before) low high (omega (arith, c.if-w-h.true))); rows = tt }
 
 pub returns : goal.returns
 returns c =
@@ -50,4 +47,4 @@ returns c =
     let (low, high) = range c.before.before.before in
     let e = c.read_header-h.ensures in
     let k = c.if-w-h.false in
-    record { verdict = sym (extend-reached a.sheet.now a.w (sound c.before.before.before.before.before.before) low high (omega arith)); rows = λ _. subst (λ x. Computed a.sheet.now x c.factors_fit.new.rows) (c.terms_to-to.ensures.is (omega arith) (omega arith)) (c.factors_fit.ensures.rows (c.if-not-factors_fit.false)) }
+    record { verdict = sym (extend-reached a.sheet.now a.w (sound c.before.before.before.before.before.before) low high (omega arith)); rows = subst (λ x. Computed a.sheet.now x c.factors_fit.new.rows) (c.terms_to-to.ensures.is (omega arith) (omega arith)) (c.factors_fit.ensures.rows (c.if-not-factors_fit.false)) }

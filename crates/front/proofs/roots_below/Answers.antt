@@ -1,20 +1,17 @@
--- `front::roots_below` meets its contract. The loop's invariant: the roots before i are below p.
+-- `front::roots_below` meets its contract.
 -- Assumes nothing.
 use Prim.Native.Nat.{◌<◌}
 use native.Mathlib.Omega.{arith}
-use borrow.Author.Count.{below_more}
-use Rattle.numbers.proofs.TestsLaws.{decides-yes, decides-no}
+use mathlib.Core.Path.{refl}
+use borrow.Author.Rules.{rules}
+use borrow.Author.Tests.{tests}
+use Rattle.std.proofs.lemmas.Iterator.{cases_from_all, YieldsList-from_range}
 use Rattle.layout.specs.Layout.{root}
+use Rattle.front.proofs.EachLaws.{decides_each}
 use Rattle.front.proofs.roots_below.Goals as goal
 
-pub loop-i-init : goal.loop-i-init
-loop-i-init c = (omega arith, λ k l. absurd (let z : ⊥ = omega arith in z))
-
-pub returns-then-p-root_at : goal.returns-then-p-root_at
-returns-then-p-root_at c = let e = c.root_at.ensures in decides-no (λ h. let z : ⊥ = omega (arith, h c.loop-i.i (omega arith), c.if-p-root_at.true) in z)
-
-pub loop-i-preserved : goal.loop-i-preserved
-loop-i-preserved c = let a = c.args in let e = c.root_at.ensures in (omega arith, below_more (λ l. root a.s.now l < a.p) _ c.loop-i.invariant.1 (omega arith))
-
 pub returns : goal.returns
-returns c = decides-yes (λ i l. c.loop-i.invariant.1 i (omega arith))
+returns c =
+    let a = c.args in
+    let d = decides_each 0 a.r (λ i. root a.s.now i < a.p) _ (cases_from_all _ _ _ (λ i. root a.s.now i < a.p) (λ i. root a.s.now i < a.p → ⊥) c.all.ensures.ran (YieldsList-from_range 0 a.r _ refl refl) (λ x q k. (search rules, grind (arith, tests))) (λ x q k. grind (arith, tests))) in
+    record { yes = λ t i l. d.yes t i (omega arith) l; no = λ f h. d.no f (λ i _ l. h i l) }

@@ -1,23 +1,17 @@
 -- `front::rows_size` meets its contract.
 -- Assumes nothing.
-use mathlib.Core.Path.{refl}
 use Prim.Native.Nat.{◌*◌, ◌≤◌}
 use native.Mathlib.Omega.{arith}
 use Rattle.layout.proofs.PlacesLaws.{header-size}
 use Rattle.front.specs.internal.Front.{Front}
-use Rattle.front.proofs.FrontLaws.{rows-room, rows-some}
+use Rattle.front.proofs.FrontLaws.{rows-room}
 use Rattle.front.proofs.rows_size.Goals as goal
 use Rattle.front.proofs.rows_size.Lts as step
 use Rattle.front.proofs.rows_size.Reads as reads
 use Rattle.front.proofs.rows_size.Tie as tie
 
 pub returns-then-not-front_fits : goal.returns-then-not-front_fits
-returns-then-not-front_fits c = record {
-  none = λ _. c.front_fits.ensures.no (c.if-not-front_fits.true);
-  front = λ ne. absurd (ne refl);
-  size = λ ne. absurd (ne refl);
-  room = omega arith;
-}
+returns-then-not-front_fits c = c.front_fits.ensures.no c.if-not-front_fits.true
 
 fits : (b : step.Else1 tie.the-claims reads.Pre reads.Post) → Front b.args.s.now
 fits b = b.front_fits.ensures.yes (b.if-not-front_fits.false)
@@ -36,4 +30,4 @@ pub returns : goal.returns
 returns c =
     let f = fits c.before.before.before in
     let e = header-size _ _ c.read_header-h.ensures in
-    record { none = λ z _. let y : ⊥ = omega (arith, rows-some _ f.shape.header) in y; front = λ _. f; size = λ _. e; room = room c.before.before }
+    record { front = f; size = e; room = room c.before.before }

@@ -10,9 +10,10 @@
 --   PolynomialFits     the polynomial's words are below p, and its top row is 1, 0, 0, ..
 --   LengthsFit         each row is known to its length, and word 10 is the least length
 --   Front              all of these: what stands before the factors' rows fits
---   RowsSize s n       n is the number of words of the factors' rows where it does, and else 0
+--   SizeOf s n         it does, and n is the number of words of the factors' rows
+--   RowsSize s r       r is that number; or there is none, and it does not
 -- Assumes nothing.
-use Rattle.std.specs.Prelude.{ℕ, ◌+◌, ◌*◌, ◌≤◌, ◌<◌, ◌≡◌, ◌≢◌, List, length}
+use Rattle.std.specs.Prelude.{ℕ, ◌+◌, ◌*◌, ◌≤◌, ◌<◌, ◌≡◌, List, length, Option, None, Some}
 use Rattle.algebra.specs.Sums.{sum_to}
 use Rattle.algebra.specs.Prime.{Prime}
 use Rattle.numbers.specs.Words.{word, least}
@@ -83,8 +84,11 @@ pub record Front (s : List ℕ) : Type 0 where
   pub words : PolynomialFits s
   pub lengths : LengthsFit s
 
-pub record RowsSize (s : List ℕ) (n : ℕ) : Type 0 where
-  pub none : n ≡ 0 → Front s → ⊥
-  pub front : n ≢ 0 → Front s
-  pub size : n ≢ 0 → n ≡ degree s * width s
+pub record SizeOf (s : List ℕ) (n : ℕ) : Type 0 where
+  pub front : Front s
+  pub size : n ≡ degree s * width s
   pub room : n ≤ 8192
+
+abbrev pub RowsSize : List ℕ → Option ℕ → Type 0
+RowsSize s None = Front s → ⊥
+RowsSize s (Some n) = SizeOf s n

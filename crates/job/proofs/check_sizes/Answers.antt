@@ -38,10 +38,10 @@ passed-4 : (b : step.Else2 tie.the-claims reads.Pre reads.Post) → let s = file
 passed-4 b = passed-3 b.before.before.before ∙ skip-check _ _ (sym (width_is b.before) ∙ b.if-outside-2.false)
 
 pub returns-then-outside : goal.returns-then-outside
-returns-then-outside c = c.refuse.ensures ∙ sym (take-check _ _ (sym (degree-is c.before.before.before) ∙ c.if-outside.true))
+returns-then-outside c = sym (take-check _ _ (sym (degree-is c.before.before) ∙ c.if-outside.true))
 
 pub returns-then-outside-2 : goal.returns-then-outside-2
-returns-then-outside-2 c = c.refuse-then-outside-2.ensures ∙ sym (passed-3 c.before.before.before.before.before ∙ take-check _ _ (sym (width_is c.before.before.before) ∙ c.if-outside-2.true))
+returns-then-outside-2 c = sym (passed-3 c.before.before.before.before ∙ take-check _ _ (sym (width_is c.before.before) ∙ c.if-outside-2.true))
 
 pub misplaced-requires : goal.misplaced-requires
 misplaced-requires c = (
@@ -52,7 +52,7 @@ misplaced-requires c = (
 )
 
 pub returns-then-misplaced : goal.returns-then-misplaced
-returns-then-misplaced c = c.refuse-then-misplaced.ensures ∙ sym (passed-4 c.before.before.before.before ∙ take-check _ _ (sym (places_is c.before.before.before) ∙ c.if-misplaced.true))
+returns-then-misplaced c = sym (passed-4 c.before.before.before ∙ take-check _ _ (sym (places_is c.before.before) ∙ c.if-misplaced.true))
 
 pub returns : goal.returns
 returns c = sym (passed-4 c.before.before.before ∙ skip-check _ _ (sym (places_is c.before.before) ∙ c.if-misplaced.false) ∙ none-judged)

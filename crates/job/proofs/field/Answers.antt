@@ -1,9 +1,8 @@
 -- `job::field` meets its contract: the field's bytes stand within the file.
 -- Assumes nothing.
 use mathlib.Core.Path.{◌≡◌, ◌∙◌, ap₂}
-use native.Mathlib.Omega.{arith}
 use Rattle.job.specs.Job.{number, place, field}
-use Rattle.job.proofs.JobLaws.{placed, place-next}
+use Rattle.job.proofs.JobLaws.{placed}
 use Rattle.job.proofs.field.Goals as goal
 use Rattle.job.proofs.field.Lts as step
 use Rattle.job.proofs.field.Reads as reads
@@ -12,9 +11,6 @@ use Rattle.job.proofs.field.Tie as tie
 -- where the field begins
 at_place : (b : step.After-place tie.the-claims reads.Pre reads.Post) → b.place.result ≡ place b.args.job.now b.args.i
 at_place b = b.place.ensures ∙ placed b.args.job.now b.args.form b.args.i b.requires.0
-
-pub number-requires : goal.number-requires
-number-requires c = (omega (arith, at_place c.before, place-next c.args.job.now c.args.i, c.requires.0.size_is), c.requires.0.size-high)
 
 pub returns : goal.returns
 unfolding field

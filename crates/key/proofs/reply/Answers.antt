@@ -5,8 +5,8 @@ use Rattle.numbers.specs.Refusals.{outcome}
 use Rattle.typed.proofs.KeyLaws.{keyed-never, keyed-as}
 use Rattle.key.proofs.reply.Goals as goal
 
-pub returns-in-Done : goal.returns-in-Done
-returns-in-Done c = keyed-as c.args.input.now c.args.text.now _ _ _ (ap outcome c.in-Done.is) c.key.ensures
+pub returns-in-Ok : goal.returns-in-Ok
+returns-in-Ok c = keyed-as c.args.input.now c.args.text.now _ _ _ (ap outcome c.in-Ok.is) c.key.ensures
 
-pub returns-in-Refused : goal.returns-in-Refused
-returns-in-Refused c = keyed-never c.args.input.now c.args.text.now _ _ _ _ (ap outcome c.in-Refused.is) c.requires c.key.ensures
+pub returns-in-Err : goal.returns-in-Err
+returns-in-Err c = keyed-never c.args.input.now c.args.text.now _ _ _ _ (ap outcome c.in-Err.is) c.requires c.key.ensures

@@ -6,8 +6,7 @@
 --   WroteGiven   by the verdict in a sheet that has room for every job
 -- Assumes nothing.
 use Rattle.std.specs.Prelude.{ℕ, List, length}
-use Rattle.numbers.specs.Refusals.{judge, Outcome}
-use Rattle.numbers.specs.declared.refusal.Verdict.{Verdict}
+use Rattle.numbers.specs.Refusals.{judge, Outcome, Verdict}
 use Rattle.sheet.specs.Sheet.{Given}
 use Rattle.open.specs.Open.{OpenedBy}
 use Rattle.text.specs.internal.Rooms.{sheet_room}

@@ -1,14 +1,18 @@
 -- `modulo::bit_above` meets its contract.
 -- Assumes nothing.
+use mathlib.Core.Path.{◌≡◌, refl, ◌∙◌}
+use Prim.Native.Nat.{ℕ, zero, suc, ◌^◌}
+use native.Mathlib.Nat.{pow-suc}
 use native.Mathlib.Omega.{arith}
-use Rattle.modulo.proofs.ProductLaws.{two-one, two-next}
+use Rattle.modulo.specs.internal.Modulo.{two_to}
 use Rattle.modulo.proofs.bit_above.Goals as goal
 
-pub loop-bit-init : goal.loop-bit-init
-loop-bit-init c = (omega arith, two-one)
-
-pub loop-bit-preserved : goal.loop-bit-preserved
-loop-bit-preserved c = (omega arith, two-next _ c.loop-bit.invariant.1)
+two_to-is : (i : ℕ) → 2 ^ i ≡ two_to i
+unfolding two_to
+two_to-is zero = refl
+two_to-is (suc i) = rw pow-suc (let e = two_to-is i in omega arith)
 
 pub returns : goal.returns
-returns c = (c.loop-bit.invariant.1, omega arith)
+returns c =
+    let (i, is) = c.next_power_of_two.ensures.power in
+    ((i, is ∙ two_to-is i), omega (arith, c.next_power_of_two.ensures.lower_bound))

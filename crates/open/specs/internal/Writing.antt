@@ -10,8 +10,7 @@
 use Rattle.std.specs.Prelude.{ℕ, ◌≡◌, List, [], ◌∷◌, ◌++◌, length}
 use Rattle.algebra.specs.Sums.{sum_to}
 use Rattle.numbers.specs.Words.{word, least, over}
-use Rattle.numbers.specs.Refusals.{judge, Outcome, outcome_after, written, room_check}
-use Rattle.numbers.specs.declared.refusal.Verdict.{Verdict}
+use Rattle.numbers.specs.Refusals.{judge, Outcome, outcome_after, written, room_check, Verdict}
 use Rattle.layout.specs.Layout.{header_of}
 use Rattle.sheet.specs.Sheet.{Given, given-polynomial}
 use Rattle.open.specs.Open.{needed}

@@ -3,9 +3,8 @@
 use mathlib.Core.Path.{◌≡◌, sym, ◌∙◌}
 use Prim.Native.Nat.{◌+◌}
 use native.Mathlib.Omega.{arith}
-use Rattle.numbers.specs.Refusals.{judge}
-use Rattle.numbers.specs.declared.refusal.Verdict.TheVariants.{Pass}
-use Rattle.numbers.proofs.RefusalsLaws.{few_words, leave-refused, leave-done}
+use Rattle.numbers.specs.Refusals.{judge, Pass}
+use Rattle.numbers.proofs.RefusalsLaws.{few_words, leave-refused, leave-done, told-pass, told-refuse, handed-up}
 use Rattle.pair.specs.Paired.{pair_checks}
 use Rattle.pair.proofs.AnswerLaws.{PairInput, operation-of, pair-pass, given-of, lent-long, lent-held, lifted-done}
 use Rattle.pair.proofs.pair.Goals as goal
@@ -13,16 +12,15 @@ use Rattle.pair.proofs.pair.Lts as step
 use Rattle.pair.proofs.pair.Reads as reads
 use Rattle.pair.proofs.pair.Tie as tie
 
-pub returns-in-Refuse : goal.returns-in-Refuse
-returns-in-Refuse c =
-    let r = leave-refused _ _ _ _ (sym c.check_pair.ensures ∙ c.in-Refuse.is) in
-    record { answers = r.0; leaves = r.1 }
+pub returns-in_err-check_pair : goal.returns-in_err-check_pair
+returns-in_err-check_pair c =
+    rw (handed-up c.from_residual.ensures.1) (let r = leave-refused _ _ _ _ (told-refuse c.check_pair.ensures c.in_err-check_pair.was) in record { answers = r.0; leaves = r.1 })
 
 -- where the checks have passed
-passed : (b : step.Past-After-enum_told tie.the-claims reads.Pre reads.Post tie.handed_clauses) → let a = b.args in judge (pair_checks a.p a.d a.n a.f.now a.h a.w a.out.now) ≡ Pass
-passed b = sym b.check_pair.ensures ∙ b.in_default.is
+passed : (b : step.Past-After-known_told tie.the-claims reads.Pre reads.Post tie.handed_clauses) → let a = b.args in judge (pair_checks a.p a.d a.n a.f.now a.h a.w a.out.now) ≡ Pass
+passed b = told-pass b.check_pair.ensures b.in_ok-check_pair.was
 
-input : (b : step.Past-After-enum_told tie.the-claims reads.Pre reads.Post tie.handed_clauses) → let a = b.args in PairInput a.p a.d a.n a.f.now a.h a.w a.out.now
+input : (b : step.Past-After-known_told tie.the-claims reads.Pre reads.Post tie.handed_clauses) → let a = b.args in PairInput a.p a.d a.n a.f.now a.h a.w a.out.now
 input b = pair-pass _ _ _ _ _ _ _ (passed b)
 
 pub order_of-order-requires : goal.order_of-order-requires
@@ -40,13 +38,18 @@ slice_bounds-lift-end c = (operation-of (input c.before.before)).roomy
 pub slice_bounds-lift-end-2 : goal.slice_bounds-lift-end-2
 slice_bounds-lift-end-2 c = sym (lent-long _ _ _ _ _ _ _ (input c.before.before.before))
 
-pub lift-requires : goal.lift-requires
-lift-requires c =
+pub invariant_of-given : goal.invariant_of-given
+invariant_of-given c =
     let i = input c.before.before.before in
     let e = c.order_of-order.ensures in
-    (given-of (operation-of i) e (omega (arith, e, i.bound)), lent-long _ _ _ _ _ _ _ i, lent-held _ _ _ _ _ _ _ i, i.upto, i.low, i.high)
+    record { given = given-of (operation-of i) e (omega (arith, e, i.bound)) }
+
+pub lift-requires : goal.lift-requires
+lift-requires c =
+    let i = input c.before.before.before.before in
+    (lent-long _ _ _ _ _ _ _ i, lent-held _ _ _ _ _ _ _ i, i.upto, i.low, i.high)
 
 pub returns : goal.returns
 returns c =
-    let r = leave-done _ _ _ _ _ (passed c.before.before.before.before.before.before) c.order_of-order.ensures (lifted-done _ _ _ _ _ _ _ (input c.before.before.before.before.before.before) _ (c.lift.ensures.long ∙ lent-long _ _ _ _ _ _ _ (input c.before.before.before.before.before.before)) c.lift.ensures.words) in
+    let r = leave-done _ _ _ _ _ (passed c.before.before.before.before.before.before.before) c.order_of-order.ensures (lifted-done _ _ _ _ _ _ _ (input c.before.before.before.before.before.before.before) _ (c.lift.ensures.long ∙ lent-long _ _ _ _ _ _ _ (input c.before.before.before.before.before.before.before)) c.lift.ensures.words) in
     record { answers = r.0; leaves = r.1 }

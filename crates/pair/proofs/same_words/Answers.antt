@@ -1,20 +1,20 @@
--- `pair::same_words` meets its contract. The loop's invariant: the words before i agree.
+-- `pair::same_words` meets its contract.
 -- Assumes nothing.
-use mathlib.Core.Path.{◌≡◌}
-use native.Mathlib.Omega.{arith}
-use borrow.Author.Count.{below_more}
+use mathlib.Core.Path.{sym, ap, ◌∙◌}
+use mathlib.Core.List.{List}
+use Prim.Native.Nat.{ℕ}
+use lib.Seq.{ext_get_or}
+use Rattle.std.proofs.lemmas.Bool.Decides.{Decides-eqb}
+use Rattle.std.proofs.lemmas.Slice.Eq.{slice_eq-Decides}
 use Rattle.numbers.specs.Words.{word}
-use Rattle.numbers.proofs.TestsLaws.{decides-yes, decides-no}
+use Rattle.numbers.proofs.WordsLaws.{true-false}
 use Rattle.pair.proofs.same_words.Goals as goal
 
-pub loop-i-init : goal.loop-i-init
-loop-i-init c = (omega arith, λ k l. absurd (let z : ⊥ = omega arith in z))
-
-pub returns-then-a-i : goal.returns-then-a-i
-returns-then-a-i c = decides-no (λ h. c.if-a-i.true (h c.loop-i.i (omega arith)))
-
-pub loop-i-preserved : goal.loop-i-preserved
-loop-i-preserved c = let a = c.args in (omega arith, below_more (λ l. word a.a.now l ≡ word a.b.now l) _ c.loop-i.invariant.1 c.if-a-i.false)
-
 pub returns : goal.returns
-returns c = decides-yes (λ i l. c.loop-i.invariant.1 i (omega arith))
+returns c =
+    let a = c.args in
+    let d = slice_eq-Decides Decides-eqb a.a.now a.b.now _ c.eq.ensures in
+    record {
+      yes = λ t i l. ap (λ (xs : List ℕ). word xs i) (d.0 t);
+      no = λ f h. true-false (sym (d.1 (ext_get_or 0 a.a.now a.b.now (sym c.requires) h)) ∙ f);
+    }

@@ -1,53 +1,38 @@
 -- `read::read` meets its contract.
 -- Assumes nothing.
-use mathlib.Core.Path.{◌≡◌, sym, ap, ◌∙◌, subst}
 use native.Mathlib.Omega.{arith}
-use lib.ListN.{length}
-use Rattle.numbers.specs.Refusals.{judge, outcome, Outcome}
-use Rattle.numbers.specs.declared.refusal.Verdict.TheVariants.{Pass, Refuse}
-use Rattle.formula.specs.internal.Scan.{lead, bottom, scan}
-use Rattle.read.specs.Read.{text_checks, ReadOf}
-use Rattle.read.specs.declared.Part.TheVariants.{Value, Nothing}
+use Rattle.numbers.proofs.RefusalsLaws.{told-pass, told-refuse, handed-up}
 use Rattle.read.proofs.OutcomeLaws.{text-passed, read-refused, read-nothing, read_known, read_done}
 use Rattle.read.proofs.read.Goals as goal
 
-pub returns-in-Refuse : goal.returns-in-Refuse
-returns-in-Refuse c =
+pub returns-in_err-check_text : goal.returns-in_err-check_text
+returns-in_err-check_text c =
     let the-args = c.args in
-    let the-check-text = c.check_text in
-    let m : the-check-text.result ≡ Refuse c.in-Refuse.r = cc in
-    read-refused the-args.p the-args.n the-args.text.now the-args.out.now _ (sym the-check-text.ensures ∙ m)
+    rw (handed-up c.from_residual.ensures.1) (read-refused the-args.p the-args.n the-args.text.now the-args.out.now _ (told-refuse c.check_text.ensures c.in_err-check_text.was))
+
+pub invariant_of-ring : goal.invariant_of-ring
+invariant_of-ring c =
+    let the-args = c.args in
+    let v = told-pass c.check_text.ensures c.in_ok-check_text.was in
+    let g = text-passed the-args.p the-args.n the-args.text.now v in
+    record { bounds = (g.modulus.two, g.modulus.small, g.low, g.high) }
 
 pub sum_at-requires : goal.sum_at-requires
 sum_at-requires c =
     let the-args = c.args in
-    let v : judge (text_checks the-args.p the-args.n (length the-args.text.now) (scan (lead bottom) the-args.text.now)) ≡ Pass = cc in
+    let v = told-pass c.check_text.ensures c.in_ok-check_text.was in
     let g = text-passed the-args.p the-args.n the-args.text.now v in
-    (g.modulus.two, g.modulus.small, g.low, g.high, omega arith, omega (arith, g.short), omega (arith, g.high))
+    (omega arith, g.short, omega (arith, g.high))
 
-pub returns-in_default-sum_at : goal.returns-in_default-sum_at
-returns-in_default-sum_at c =
+pub returns-in_default : goal.returns-in_default
+returns-in_default c =
     let the-args = c.args in
-    let the-sum-at = c.sum_at in
-    let v : judge (text_checks the-args.p the-args.n (length the-args.text.now) (scan (lead bottom) the-args.text.now)) ≡ Pass = cc in
-    let m : the-sum-at.result ≡ Nothing = cc in
-    subst (λ (x : Outcome _). ReadOf the-args.p the-args.n the-args.text.now the-args.out.now x the-args.out.now) (sym (ap outcome c.refused.ensures)) (read-nothing the-args.p the-args.n the-args.text.now v the-args.out.now _ _ m the-sum-at.ensures)
-
-pub hand_over-requires : goal.hand_over-requires
-hand_over-requires c =
-    let the-args = c.args in
-    let v : judge (text_checks the-args.p the-args.n (length the-args.text.now) (scan (lead bottom) the-args.text.now)) ≡ Pass = cc in
-    let g = text-passed the-args.p the-args.n the-args.text.now v in
-    let m : c.sum_at.result ≡ Value c.in-Value.field-0 c.in-Value.rows = cc in
-    let k = read_known the-args.p the-args.n the-args.text.now v _ _ _ _ m c.sum_at.ensures in
-    let q = c.sum_at.auto.out in
-    (k.some, k.stored.low, g.high, omega (arith, g.high))
+    let v = told-pass c.check_text.ensures c.in_ok-check_text.was in
+    read-nothing the-args.p the-args.n the-args.text.now v the-args.out.now c.sum_at.new.out c.in_default.ensures
 
 pub returns : goal.returns
 returns c =
     let the-args = c.args in
-    let the-sum-at = c.sum_at in
-    let v : judge (text_checks the-args.p the-args.n (length the-args.text.now) (scan (lead bottom) the-args.text.now)) ≡ Pass = cc in
-    let m : the-sum-at.result ≡ Value c.in-Value.field-0 c.in-Value.rows = cc in
-    let k = read_known the-args.p the-args.n the-args.text.now v _ _ _ _ m the-sum-at.ensures in
+    let v = told-pass c.check_text.ensures c.in_ok-check_text.was in
+    let k = read_known the-args.p the-args.n the-args.text.now v _ _ c.in-Some.ensures in
     read_done the-args.p the-args.n the-args.text.now v the-args.out.now _ _ _ _ k c.hand_over.ensures.answer c.hand_over.ensures.words

@@ -1,10 +1,11 @@
 -- Values as they are kept: rows 0 to 32 at the front of a slice.
 --   Stored p n f w r     the words w begin with rows 0 to 32 of the polynomial f, of which r count: its Y-degree is r − 1
---   Kept p n f w r       the same, or r is 0 and f is too high
---   Raised p n f k w r   the same of the k-th power of f, or r is 0 and some power of f from 1 to k is too high
+--   RowCount r           r is 1 to 33, if there is one
+--   Kept p n f w r       w stores f with r rows, or there is no r and f is too high
+--   Raised p n f k w r   the same of the k-th power of f, where no power from 1 to k is too high; or there is no r and one of them is
 --   TopRows n w total r  the first r of `total` rows count: the others are 0, and row r − 1 is not, unless r is 1
 -- Assumes nothing.
-use Rattle.std.specs.Prelude.{◌≡◌, true, false, List, ℕ, ◌+◌, ◌-◌, ◌*◌, ◌≤◌, ◌<◌}
+use Rattle.std.specs.Prelude.{◌≡◌, true, false, Option, Some, None, List, ℕ, ◌+◌, ◌-◌, ◌*◌, ◌≤◌, ◌<◌}
 use Rattle.numbers.specs.Limits.{most_rows}
 use Rattle.numbers.specs.Words.{word}
 use Rattle.read.specs.Value.{Poly, power_of, degree, high, zero_row, powers_high}
@@ -16,14 +17,17 @@ pub record Stored (p n : ℕ) (f : Poly) (w : List ℕ) (rows : ℕ) : Type 0 wh
   pub below : (j t : ℕ) → f.row j t < p
   pub empty : (j t : ℕ) → f.bound < j → f.row j t ≡ 0
 
-pub record Kept (p n : ℕ) (f : Poly) (w : List ℕ) (r : ℕ) : Type 0 where
-  pub too-high : r ≡ 0 → high n f ≡ true
-  pub stored : (r ≡ 0 → ⊥) → Stored p n f w r
+abbrev pub RowCount : Option ℕ → Type 0
+RowCount (Some r) = (1 ≤ r) × (r ≤ most_rows)
+RowCount None = Unit {0}
 
-pub record Raised (p n : ℕ) (f : Poly) (k : ℕ) (w : List ℕ) (r : ℕ) : Type 0 where
-  pub too-high : r ≡ 0 → powers_high p n f k ≡ true
-  pub stored : (r ≡ 0 → ⊥) → Stored p n (power_of p f k) w r
-  pub low : (r ≡ 0 → ⊥) → powers_high p n f k ≡ false
+abbrev pub Kept : (p n : ℕ) → Poly → List ℕ → Option ℕ → Type 0
+Kept p n f w (Some r) = Stored p n f w r
+Kept p n f w None = high n f ≡ true
+
+abbrev pub Raised : (p n : ℕ) → Poly → (k : ℕ) → List ℕ → Option ℕ → Type 0
+Raised p n f k w (Some r) = Stored p n (power_of p f k) w r × (powers_high p n f k ≡ false)
+Raised p n f k w None = powers_high p n f k ≡ true
 
 pub record TopRows (n : ℕ) (w : List ℕ) (total r : ℕ) : Type 0 where
   pub some : 1 ≤ r

@@ -2,9 +2,10 @@
 --   Monic p e       e is a monic polynomial of degree 1 to 32 over F_p, p below 2^24
 --   Kept b c n ..   where the test b holds, c was put as word n; the count is that of the words then
 --   SplitAnswer ..  whether the listed numbers, with some powers, give the polynomial, and then with which
---   FoundRoots ..   the first `count` words of `roots` are all roots, and those of `powers` their powers; 0 where the polynomial does not split
+--   RootsAre ..     the first `count` words of `roots` are all roots, at least one, and those of `powers` their powers
+--   FoundRoots ..   so it is; or there is no count, and the polynomial does not split
 -- Assumes nothing.
-use Rattle.std.specs.Prelude.{ℕ, ◌+◌, ◌-◌, ◌≤◌, ◌<◌, ◌≡◌, Bool, true, false, List, [], length, take, set}
+use Rattle.std.specs.Prelude.{ℕ, ◌+◌, ◌-◌, ◌≤◌, ◌<◌, ◌≡◌, Bool, true, false, List, [], length, take, set, Option, None, Some}
 use Rattle.algebra.specs.Prime.{Prime}
 use Rattle.numbers.specs.Words.{word, choose, keep}
 use Rattle.numbers.specs.Limits.{most_rows}
@@ -28,7 +29,12 @@ pub record SplitAnswer (p : ℕ) (e roots : List ℕ) (found : Bool) (powers : L
   pub yes : found ≡ true → Rising roots × AllBelow p roots × GivesPowers p roots e (word powers)
   pub no : found ≡ false → Rising roots → AllBelow p roots → (m : ℕ → ℕ) → GivesPowers p roots e m → ⊥
 
-pub record FoundRoots (p : ℕ) (e : List ℕ) (count : ℕ) (roots powers : List ℕ) : Type 0 where
+pub record RootsAre (p : ℕ) (e : List ℕ) (count : ℕ) (roots powers : List ℕ) : Type 0 where
+  pub some : 1 ≤ count
   pub fits : count ≤ length roots
-  pub yes : 1 ≤ count → (take count roots ≡ all_roots p e) × GivesPowers p (all_roots p e) e (word powers)
-  pub no : count ≡ 0 → Unsplit p e
+  pub all : take count roots ≡ all_roots p e
+  pub gives : GivesPowers p (all_roots p e) e (word powers)
+
+abbrev pub FoundRoots : (p : ℕ) (e : List ℕ) → Option ℕ → (roots powers : List ℕ) → Type 0
+FoundRoots p e None roots powers = Unsplit p e
+FoundRoots p e (Some count) roots powers = RootsAre p e count roots powers

@@ -1,13 +1,12 @@
 -- `rows::difference` meets its contract: what the check lets pass is what the kernel requires.
 -- Assumes nothing.
-use mathlib.Core.Path.{◌≡◌, sym, ◌∙◌}
+use mathlib.Core.Path.{◌≡◌}
 use Prim.Native.Nat.{◌+◌, ◌*◌, ◌≤◌}
 use native.Mathlib.Omega.{arith}
 use lib.ListN.{length}
 use Rattle.numbers.specs.Limits.{most_rows}
-use Rattle.numbers.specs.Refusals.{judge}
-use Rattle.numbers.specs.declared.refusal.Verdict.TheVariants.{Pass}
-use Rattle.numbers.proofs.RefusalsLaws.{answer-refused}
+use Rattle.numbers.specs.Refusals.{judge, Pass}
+use Rattle.numbers.proofs.RefusalsLaws.{answer-refused, told-pass, told-refuse, handed-up}
 use Rattle.series.specs.Series.{differences}
 use Rattle.rows.specs.Rows.{rows_checks}
 use Rattle.rows.proofs.CheckLaws.{rows-ready, rows-small, rows-done}
@@ -17,16 +16,17 @@ use Rattle.rows.proofs.difference.Reads as reads
 use Rattle.rows.proofs.difference.Tie as tie
 
 -- where the check has passed
-passed : (b : step.Past-After-enum_told tie.the-claims reads.Pre reads.Post tie.handed_clauses) → let a = b.args in judge (rows_checks a.p a.d a.n a.f.now a.g.now (length a.out.now)) ≡ Pass
-passed b = sym b.check_operation.ensures ∙ b.in_default.is
+passed : (b : step.Past-After-known_told tie.the-claims reads.Pre reads.Post tie.handed_clauses) → let a = b.args in judge (rows_checks a.p a.d a.n a.f.now a.g.now (length a.out.now)) ≡ Pass
+passed b = told-pass b.check_operation.ensures b.in_ok-check_operation.was
 
-small : (b : step.Past-After-enum_told tie.the-claims reads.Pre reads.Post tie.handed_clauses) → let a = b.args in (a.d + 1 ≤ most_rows) × ((a.d + 1) * a.n ≤ 8448)
+small : (b : step.Past-After-known_told tie.the-claims reads.Pre reads.Post tie.handed_clauses) → let a = b.args in (a.d + 1 ≤ most_rows) × ((a.d + 1) * a.n ≤ 8448)
 small b =
     let a = b.args in
     rows-small a.p a.d a.n a.f.now a.g.now (length a.out.now) (passed b)
 
-pub returns-in-Refuse : goal.returns-in-Refuse
-returns-in-Refuse c = answer-refused _ _ _ _ (sym c.check_operation.ensures ∙ c.in-Refuse.is)
+pub returns-in_err-check_operation : goal.returns-in_err-check_operation
+returns-in_err-check_operation c =
+    rw (handed-up c.from_residual.ensures.1) (answer-refused _ _ _ _ (told-refuse c.check_operation.ensures c.in_err-check_operation.was))
 
 pub subtract-requires : goal.subtract-requires
 subtract-requires c =

@@ -1,12 +1,11 @@
 -- `rows::product` meets its contract: what the check lets pass is what the kernel requires.
 -- Assumes nothing.
-use mathlib.Core.Path.{◌≡◌, sym, subst, ◌∙◌}
+use mathlib.Core.Path.{◌≡◌, subst}
 use Prim.Native.Nat.{ℕ, ◌+◌, ◌-◌, ◌*◌, ◌≤◌}
 use native.Mathlib.Omega.{arith}
 use lib.ListN.{length}
-use Rattle.numbers.specs.Refusals.{judge}
-use Rattle.numbers.specs.declared.refusal.Verdict.TheVariants.{Pass}
-use Rattle.numbers.proofs.RefusalsLaws.{Operation, operation-pass, answer-refused, answer-done, few_words}
+use Rattle.numbers.specs.Refusals.{judge, Pass}
+use Rattle.numbers.proofs.RefusalsLaws.{Operation, operation-pass, answer-refused, answer-done, few_words, told-pass, told-refuse, handed-up}
 use Rattle.rows.specs.Rows.{product_checks, rows_of, table, mul, row_product}
 use Rattle.rows.proofs.product.Goals as goal
 use Rattle.rows.proofs.product.Lts as step
@@ -14,16 +13,17 @@ use Rattle.rows.proofs.product.Reads as reads
 use Rattle.rows.proofs.product.Tie as tie
 
 -- where the check has passed
-passed : (b : step.Past-After-enum_told tie.the-claims reads.Pre reads.Post tie.handed_clauses) → let a = b.args in judge (product_checks a.p a.d a.e a.n a.f.now a.g.now (length a.out.now)) ≡ Pass
-passed b = sym b.check_operation.ensures ∙ b.in_default.is
+passed : (b : step.Past-After-known_told tie.the-claims reads.Pre reads.Post tie.handed_clauses) → let a = b.args in judge (product_checks a.p a.d a.e a.n a.f.now a.g.now (length a.out.now)) ≡ Pass
+passed b = told-pass b.check_operation.ensures b.in_ok-check_operation.was
 
-facts : (b : step.Past-After-enum_told tie.the-claims reads.Pre reads.Post tie.handed_clauses) → let a = b.args in Operation a.p a.n a.f.now (a.d + 1) a.g.now (a.e + 1) (a.d + a.e + 1) (length a.out.now)
+facts : (b : step.Past-After-known_told tie.the-claims reads.Pre reads.Post tie.handed_clauses) → let a = b.args in Operation a.p a.n a.f.now (a.d + 1) a.g.now (a.e + 1) (a.d + a.e + 1) (length a.out.now)
 facts b =
     let a = b.args in
     operation-pass a.p a.n a.f.now (a.d + 1) a.g.now (a.e + 1) (a.d + a.e + 1) (length a.out.now) (passed b)
 
-pub returns-in-Refuse : goal.returns-in-Refuse
-returns-in-Refuse c = answer-refused _ _ _ _ (sym c.check_operation.ensures ∙ c.in-Refuse.is)
+pub returns-in_err-check_operation : goal.returns-in_err-check_operation
+returns-in_err-check_operation c =
+    rw (handed-up c.from_residual.ensures.1) (answer-refused _ _ _ _ (told-refuse c.check_operation.ensures c.in_err-check_operation.was))
 
 pub multiply-requires : goal.multiply-requires
 multiply-requires c =

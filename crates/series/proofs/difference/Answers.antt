@@ -1,10 +1,9 @@
 -- `series::difference` meets its contract: what the check lets pass is what the kernel requires.
 -- Assumes nothing.
-use mathlib.Core.Path.{◌≡◌, sym, ◌∙◌}
+use mathlib.Core.Path.{◌≡◌}
 use lib.ListN.{length}
-use Rattle.numbers.specs.Refusals.{judge}
-use Rattle.numbers.specs.declared.refusal.Verdict.TheVariants.{Pass}
-use Rattle.numbers.proofs.RefusalsLaws.{answer-refused}
+use Rattle.numbers.specs.Refusals.{judge, Pass}
+use Rattle.numbers.proofs.RefusalsLaws.{answer-refused, told-pass, told-refuse, handed-up}
 use Rattle.series.specs.Series.{series_checks, differences}
 use Rattle.series.proofs.CheckLaws.{series-ready, series-done}
 use Rattle.series.proofs.difference.Goals as goal
@@ -13,11 +12,12 @@ use Rattle.series.proofs.difference.Reads as reads
 use Rattle.series.proofs.difference.Tie as tie
 
 -- where the check has passed
-passed : (b : step.Past-After-enum_told tie.the-claims reads.Pre reads.Post tie.handed_clauses) → let a = b.args in judge (series_checks a.p a.n a.g.now a.h.now (length a.out.now)) ≡ Pass
-passed b = sym b.check_operation.ensures ∙ b.in_default.is
+passed : (b : step.Past-After-known_told tie.the-claims reads.Pre reads.Post tie.handed_clauses) → let a = b.args in judge (series_checks a.p a.n a.g.now a.h.now (length a.out.now)) ≡ Pass
+passed b = told-pass b.check_operation.ensures b.in_ok-check_operation.was
 
-pub returns-in-Refuse : goal.returns-in-Refuse
-returns-in-Refuse c = answer-refused _ _ _ _ (sym c.check_operation.ensures ∙ c.in-Refuse.is)
+pub returns-in_err-check_operation : goal.returns-in_err-check_operation
+returns-in_err-check_operation c =
+    rw (handed-up c.from_residual.ensures.1) (answer-refused _ _ _ _ (told-refuse c.check_operation.ensures c.in_err-check_operation.was))
 
 pub subtract-requires : goal.subtract-requires
 subtract-requires c =

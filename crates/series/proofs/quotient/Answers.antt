@@ -1,14 +1,13 @@
 -- `series::quotient` meets its contract: at each `return` the tests that led there say which check it is.
 -- Assumes nothing.
-use mathlib.Core.Path.{◌≡◌, refl, sym, ap, ap₂, ◌∙◌}
+use mathlib.Core.Path.{◌≡◌, ap, ap₂, ◌∙◌}
 use Prim.Native.Nat.{ℕ, ◌-◌, ◌<◌}
 use native.Mathlib.Omega.{arith}
 use lib.ListN.{length}
 use Rattle.numbers.specs.Words.{word, over}
-use Rattle.numbers.specs.Refusals.{judge}
-use Rattle.numbers.specs.declared.refusal.Verdict.TheVariants.{Pass}
+use Rattle.numbers.specs.Refusals.{judge, Pass}
 use Rattle.numbers.proofs.WordsLaws.{nonzero-le}
-use Rattle.numbers.proofs.RefusalsLaws.{after-told, Operation, operation-pass}
+use Rattle.numbers.proofs.RefusalsLaws.{after-refuse, Operation, operation-pass, told-pass, handed-up, told-refuse}
 use Rattle.series.specs.Series.{series_checks}
 use Rattle.series.specs.Quotient.{least_power, quotient_words}
 use Rattle.series.proofs.DividedLaws.{zero-refused, lower-refused, common-passed, divided-refused, divided-done}
@@ -17,20 +16,20 @@ use Rattle.series.proofs.quotient.Lts as step
 use Rattle.series.proofs.quotient.Reads as reads
 use Rattle.series.proofs.quotient.Tie as tie
 
-pub returns-in-Refuse : goal.returns-in-Refuse
-returns-in-Refuse c =
+pub returns-in_err-check_operation : goal.returns-in_err-check_operation
+returns-in_err-check_operation c =
     let a = c.args in
-    divided-refused _ _ _ _ _ _ _ refl (after-told (series_checks a.p a.n a.f.now a.g.now (length a.out.now)) _ _ _ c.check_operation.ensures c.in-Refuse.is)
+    rw (handed-up c.from_residual.ensures.1) (divided-refused _ _ _ _ _ _ (after-refuse (series_checks a.p a.n a.f.now a.g.now (length a.out.now)) _ _ (told-refuse c.check_operation.ensures c.in_err-check_operation.was)))
 
 -- where checks 1 to 10 have passed
-passed : (b : step.Past-After-enum_told tie.the-claims reads.Pre reads.Post) → let a = b.args in judge (series_checks a.p a.n a.f.now a.g.now (length a.out.now)) ≡ Pass
-passed b = sym b.check_operation.ensures ∙ b.in_default.is
+passed : (b : step.Past-After-known_told tie.the-claims reads.Pre reads.Post tie.handed_clauses) → let a = b.args in judge (series_checks a.p a.n a.f.now a.g.now (length a.out.now)) ≡ Pass
+passed b = told-pass b.check_operation.ensures b.in_ok-check_operation.was
 
-operation : (b : step.Past-After-enum_told tie.the-claims reads.Pre reads.Post) → let a = b.args in Operation a.p a.n a.f.now 1 a.g.now 1 1 (length a.out.now)
+operation : (b : step.Past-After-known_told tie.the-claims reads.Pre reads.Post tie.handed_clauses) → let a = b.args in Operation a.p a.n a.f.now 1 a.g.now 1 1 (length a.out.now)
 operation b = operation-pass _ _ _ _ _ _ _ _ (passed b)
 
 -- where the divisor is not 0
-there : (b : step.Else1 tie.the-claims reads.Pre reads.Post) → let a = b.args in least_power a.g.now < a.n
+there : (b : step.Else1 tie.the-claims reads.Pre reads.Post tie.handed_clauses) → let a = b.args in least_power a.g.now < a.n
 there b =
     let a = b.args in
     let o = operation b.before.before in
@@ -39,15 +38,15 @@ there b =
 pub returns-then-e-g : goal.returns-then-e-g
 returns-then-e-g c =
     let a = c.args in
-    let o = (operation c.before.before.before.before).inputs in
-    divided-refused _ _ _ _ _ _ _ c.refused.ensures
-    (zero-refused a.p a.n a.f.now a.g.now (length a.out.now) (passed c.before.before.before.before) (omega (arith, o.g-long, c.least_power-e.ensures, c.if-e-g.true)))
+    let o = (operation c.before.before.before).inputs in
+    divided-refused _ _ _ _ _ _
+    (zero-refused a.p a.n a.f.now a.g.now (length a.out.now) (passed c.before.before.before) (omega (arith, o.g-long, c.least_power-e.ensures, c.if-e-g.true)))
 
 pub returns-then-least_power-e : goal.returns-then-least_power-e
 returns-then-least_power-e c =
     let a = c.args in
-    divided-refused _ _ _ _ _ _ _ c.refused-then-least_power-e.ensures
-    (lower-refused a.p a.n a.f.now a.g.now (length a.out.now) (passed c.before.before.before.before.before.before) (there c.before.before.before.before) (omega (arith, c.least_power-e.ensures, c.least_power.ensures, c.if-least_power-e.true)))
+    divided-refused _ _ _ _ _ _
+    (lower-refused a.p a.n a.f.now a.g.now (length a.out.now) (passed c.before.before.before.before.before) (there c.before.before.before) (omega (arith, c.least_power-e.ensures, c.least_power.ensures, c.if-least_power-e.true)))
 
 pub divide_from-requires : goal.divide_from-requires
 divide_from-requires c =

@@ -1,13 +1,12 @@
 -- `series::sum` meets its contract: what the check lets pass is what the kernel requires of the known words, and zeros follow them.
 -- Assumes nothing.
-use mathlib.Core.Path.{◌≡◌, sym, ◌∙◌}
+use mathlib.Core.Path.{◌≡◌, sym}
 use Prim.Native.Nat.{◌≤◌}
 use native.Mathlib.Omega.{arith}
 use lib.ListN.{length}
 use lib.Seq.{length-take-le}
-use Rattle.numbers.specs.Refusals.{judge}
-use Rattle.numbers.specs.declared.refusal.Verdict.TheVariants.{Pass}
-use Rattle.numbers.proofs.RefusalsLaws.{answer-refused, answer-done}
+use Rattle.numbers.specs.Refusals.{judge, Pass}
+use Rattle.numbers.proofs.RefusalsLaws.{answer-refused, answer-done, told-pass, told-refuse, handed-up}
 use Rattle.series.specs.Series.{known_checks, sums}
 use Rattle.series.proofs.KnownLaws.{sums-written}
 use Rattle.series.proofs.CheckLaws.{known-within, known-ready}
@@ -16,12 +15,13 @@ use Rattle.series.proofs.sum.Lts as step
 use Rattle.series.proofs.sum.Reads as reads
 use Rattle.series.proofs.sum.Tie as tie
 
-pub returns-in-Refuse : goal.returns-in-Refuse
-returns-in-Refuse c = answer-refused _ _ _ _ (sym c.check_known.ensures ∙ c.in-Refuse.is)
+pub returns-in_err-check_known : goal.returns-in_err-check_known
+returns-in_err-check_known c =
+    rw (handed-up c.from_residual.ensures.1) (answer-refused _ _ _ _ (told-refuse c.check_known.ensures c.in_err-check_known.was))
 
 -- where the check has passed
-passed : (b : step.Past-After-enum_told tie.the-claims reads.Pre reads.Post tie.handed_clauses) → let a = b.args in judge (known_checks a.p a.n a.g.now a.gknown a.h.now a.hknown (length a.out.now)) ≡ Pass
-passed b = sym b.check_known.ensures ∙ b.in_default.is
+passed : (b : step.Past-After-known_told tie.the-claims reads.Pre reads.Post tie.handed_clauses) → let a = b.args in judge (known_checks a.p a.n a.g.now a.gknown a.h.now a.hknown (length a.out.now)) ≡ Pass
+passed b = told-pass b.check_known.ensures b.in_ok-check_known.was
 
 -- and the count that both are known to
 known : (b : step.After-lesser tie.the-claims reads.Pre reads.Post tie.handed_clauses) → let a = b.args in let k = b.lesser-known.result in

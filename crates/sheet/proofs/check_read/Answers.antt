@@ -19,7 +19,7 @@ use Rattle.sheet.proofs.check_read.Reads as reads
 use Rattle.sheet.proofs.check_read.Tie as tie
 
 pub returns-then-not-test : goal.returns-then-not-test
-returns-then-not-test c = c.refuse.ensures ∙ sym (take-check (sound_check c.args.sheet.now) _ (ap not (sym c.test.ensures ∙ c.if-not-test.true)))
+returns-then-not-test c = sym (take-check (sound_check c.args.sheet.now) _ (ap not (sym c.test.ensures ∙ c.if-not-test.true)))
 
 sound : (b : step.Else1 tie.the-claims reads.Pre reads.Post) → sound_test b.args.sheet.now ≡ true
 sound b = sym b.test.ensures ∙ b.if-not-test.false
@@ -35,7 +35,7 @@ pub returns-then-h-i : goal.returns-then-h-i
 returns-then-h-i c =
     let a = c.args in
     let e = c.read_header-h.ensures.count-is in
-    c.refuse-then-h-i.ensures ∙ sym (passed c.before.before.before.before.before ∙ take-check (index_check a.sheet.now a.i) [] (le-leb (count a.sheet.now) a.i (omega (arith, c.if-h-i.true))))
+    sym (passed c.before.before.before.before ∙ take-check (index_check a.sheet.now a.i) [] (le-leb (count a.sheet.now) a.i (omega (arith, c.if-h-i.true))))
 
 pub returns : goal.returns
 returns c =

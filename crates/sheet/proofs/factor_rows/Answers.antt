@@ -1,28 +1,19 @@
 -- `sheet::factor_rows` meets its contract.
 -- Assumes nothing.
-use mathlib.Core.Path.{◌≡◌, ◌∙◌, sym, refl}
-use Rattle.numbers.specs.declared.refusal.Verdict.TheVariants.{Pass, Refuse}
-use Rattle.sheet.specs.Reading.{read_verdict}
+use mathlib.Core.Path.{◌∙◌, sym, refl}
+use Rattle.numbers.proofs.RefusalsLaws.{told-fine, told-failed}
 use Rattle.sheet.proofs.ReadingLaws.{read-pass, sound-placed}
 use Rattle.sheet.proofs.factor_rows.Goals as goal
-use Rattle.sheet.proofs.factor_rows.Lts as step
-use Rattle.sheet.proofs.factor_rows.Reads as reads
-use Rattle.sheet.proofs.factor_rows.Tie as tie
 
-pub returns-in-Refuse : goal.returns-in-Refuse
-returns-in-Refuse c =
-    let a = c.args in
-    let m : read_verdict a.sheet.now a.i ≡ Refuse _ = sym c.check_read.ensures ∙ c.in-Refuse.is in
-    rw m refl
-
--- checks 13 and 16 have passed
-passed : (b : step.Past-After-enum_told2 tie.the-claims reads.Pre reads.Post) → let a = b.args in read_verdict a.sheet.now a.i ≡ Pass
-passed b = sym b.check_read.ensures ∙ b.in_default.is
+pub returns-then-is_err : goal.returns-then-is_err
+returns-then-is_err c =
+    let failed = told-failed _ c.check_read.ensures (sym c.is_err.ensures.value ∙ c.if-is_err.true) in
+    rw failed.1 refl
 
 pub factor_part-requires : goal.factor_part-requires
 factor_part-requires c =
-    let a = c.args in
-    let (sound, l) = read-pass a.sheet.now a.i (passed c.before) in (sound-placed _ sound, l)
+    let (sound, l) = read-pass c.args.sheet.now c.args.i (told-fine _ c.check_read.ensures (sym c.is_err.ensures.value ∙ c.if-is_err.false)) in
+    (sound-placed _ sound, l)
 
 pub returns : goal.returns
-returns c = rw (passed c.before.before) c.factor_part.ensures
+returns c = rw (told-fine _ c.check_read.ensures (sym c.is_err.ensures.value ∙ c.if-is_err.false)) c.factor_part.ensures

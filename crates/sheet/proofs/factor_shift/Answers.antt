@@ -1,10 +1,10 @@
 -- `sheet::factor_shift` meets its contract: what follows the two checks is the shift of the part.
 -- Assumes nothing.
-use mathlib.Core.Path.{◌≡◌, ◌∙◌, sym}
+use mathlib.Core.Path.{◌≡◌}
 use Prim.Native.Nat.{◌+◌, ◌*◌, ◌<◌}
 use lib.ListN.{length}
-use Rattle.numbers.specs.declared.refusal.Verdict.TheVariants.{Pass}
-use Rattle.numbers.proofs.RefusalsLaws.{after-refuse, answer-refused}
+use Rattle.numbers.specs.Refusals.{Pass}
+use Rattle.numbers.proofs.RefusalsLaws.{after-refuse, answer-refused, told-pass, told-refuse, handed-up}
 use Rattle.rows.specs.Rows.{shift_checks, row_shift}
 use Rattle.layout.specs.Layout.{count}
 use Rattle.sheet.specs.Sheet.{Sound}
@@ -15,14 +15,16 @@ use Rattle.sheet.proofs.factor_shift.Lts as step
 use Rattle.sheet.proofs.factor_shift.Reads as reads
 use Rattle.sheet.proofs.factor_shift.Tie as tie
 
-pub returns-in-Refuse : goal.returns-in-Refuse
-returns-in-Refuse c = let a = c.args in answer-refused _ _ _ _ (after-refuse (read_checks a.sheet.now a.i) _ _ (sym c.check_read.ensures ∙ c.in-Refuse.is))
+pub returns-in_err-check_read : goal.returns-in_err-check_read
+returns-in_err-check_read c =
+    let a = c.args in
+    rw (handed-up c.from_residual.ensures.1) (answer-refused _ _ _ _ (after-refuse (read_checks a.sheet.now a.i) _ _ (told-refuse c.check_read.ensures c.in_err-check_read.was)))
 
 -- checks 13 and 16 have passed: the factor is there
-passed : (b : step.Past-After-enum_told tie.the-claims reads.Pre reads.Post tie.handed_clauses) → let a = b.args in read_verdict a.sheet.now a.i ≡ Pass
-passed b = sym b.check_read.ensures ∙ b.in_default.is
+passed : (b : step.Past-After-known_told tie.the-claims reads.Pre reads.Post tie.handed_clauses) → let a = b.args in read_verdict a.sheet.now a.i ≡ Pass
+passed b = told-pass b.check_read.ensures b.in_ok-check_read.was
 
-there : (b : step.Past-After-enum_told tie.the-claims reads.Pre reads.Post tie.handed_clauses) → let a = b.args in Sound a.sheet.now × (a.i < count a.sheet.now)
+there : (b : step.Past-After-known_told tie.the-claims reads.Pre reads.Post tie.handed_clauses) → let a = b.args in Sound a.sheet.now × (a.i < count a.sheet.now)
 there b = let a = b.args in read-pass a.sheet.now a.i (passed b)
 
 pub factor_shape-f-requires : goal.factor_shape-f-requires

@@ -1,11 +1,12 @@
 -- `sheet::read_factor` meets its contract.
 -- Assumes nothing.
-use mathlib.Core.Path.{◌≡◌, ◌∙◌, sym, refl}
+use Rattle.numbers.proofs.RefusalsLaws.{told-pass, told-refuse, handed-up}
+use mathlib.Core.Path.{◌≡◌, refl}
 use Prim.Native.Nat.{◌+◌, ◌≤◌}
 use native.Mathlib.Omega.{arith}
 use lib.ListN.{length}
+use Rattle.numbers.specs.Refusals.{Pass, Refuse}
 use Rattle.numbers.specs.Limits.{largest_degree}
-use Rattle.numbers.specs.declared.refusal.Verdict.TheVariants.{Pass, Refuse}
 use Rattle.layout.specs.Layout.{degree, polynomial_from}
 use Rattle.layout.proofs.PlacesLaws.{placed-entries}
 use Rattle.sheet.specs.Reading.{read_verdict}
@@ -15,17 +16,16 @@ use Rattle.sheet.proofs.read_factor.Lts as step
 use Rattle.sheet.proofs.read_factor.Reads as reads
 use Rattle.sheet.proofs.read_factor.Tie as tie
 
-pub returns-in-Refuse : goal.returns-in-Refuse
-returns-in-Refuse c =
+pub returns-in_err-check_read : goal.returns-in_err-check_read
+returns-in_err-check_read c =
     let a = c.args in
-    let m : read_verdict a.sheet.now a.i ≡ Refuse _ = sym c.check_read.ensures ∙ c.in-Refuse.is in
-    rw m refl
+    rw (handed-up c.from_residual.ensures.1) (let m : read_verdict a.sheet.now a.i ≡ Refuse _ = told-refuse c.check_read.ensures c.in_err-check_read.was in rw m refl)
 
 -- checks 13 and 16 have passed, so the root and the power are there
-passed : (b : step.Past-After-enum_told tie.the-claims reads.Pre reads.Post) → let a = b.args in read_verdict a.sheet.now a.i ≡ Pass
-passed b = sym b.check_read.ensures ∙ b.in_default.is
+passed : (b : step.Past-After-known_told tie.the-claims reads.Pre reads.Post tie.handed_clauses) → let a = b.args in read_verdict a.sheet.now a.i ≡ Pass
+passed b = told-pass b.check_read.ensures b.in_ok-check_read.was
 
-there : (b : step.Past-After-enum_told tie.the-claims reads.Pre reads.Post) → let a = b.args in (a.i ≤ largest_degree) × (degree a.sheet.now ≤ largest_degree) × (polynomial_from (degree a.sheet.now) (a.i + 1) ≤ length a.sheet.now)
+there : (b : step.Past-After-known_told tie.the-claims reads.Pre reads.Post tie.handed_clauses) → let a = b.args in (a.i ≤ largest_degree) × (degree a.sheet.now ≤ largest_degree) × (polynomial_from (degree a.sheet.now) (a.i + 1) ≤ length a.sheet.now)
 there b =
     let a = b.args in
     let (sound, l) = read-pass a.sheet.now a.i (passed b) in

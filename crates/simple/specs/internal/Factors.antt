@@ -7,8 +7,7 @@
 -- Assumes nothing.
 use Rattle.std.specs.Prelude.{ℕ, ◌-◌, ◌<◌, ◌%◌, ◌≡◌, List, [], ◌∷◌, length}
 use Rattle.numbers.specs.Words.{word, tabulate}
-use Rattle.numbers.specs.Refusals.{judge}
-use Rattle.numbers.specs.declared.refusal.Verdict.{Verdict}
+use Rattle.numbers.specs.Refusals.{judge, Verdict}
 use Rattle.rows.specs.Rows.{table}
 use Rattle.layout.specs.Layout.{modulus, width, count, power, factor}
 use Rattle.simple.specs.Simple.{multiple_check}

@@ -1,21 +1,13 @@
 -- `solution::digits` meets its contract.
 -- Assumes nothing.
-use mathlib.Core.Path.{◌≡◌, refl, subst, ◌∙◌}
+use mathlib.Core.Path.{◌∙◌}
 use native.Mathlib.Omega.{arith}
-use lib.ListN.{length}
 use Rattle.numbers.proofs.WordsLaws.{length_from, from-below}
-use Rattle.solution.specs.internal.Table.{Digits}
 use Rattle.solution.proofs.DigitsLaws.{digits-none, digits_step}
 use Rattle.solution.proofs.digits.Goals as goal
 
 pub loop-l-init : goal.loop-l-init
-loop-l-init c = (omega arith, refl, refl, digits-none _ _ _ _ c.requires.8)
-
-pub slice_bounds-digit-count : goal.slice_bounds-digit-count
-slice_bounds-digit-count c = omega arith
-
-pub slice_bounds-digit-start : goal.slice_bounds-digit-start
-slice_bounds-digit-start c = omega arith
+loop-l-init c = digits-none _ _ _ _ c.requires.8
 
 pub digit-requires : goal.digit-requires
 digit-requires c =
@@ -28,9 +20,9 @@ digit-requires c =
       omega arith,
       omega arith,
       omega (arith, length_from l.e l.l),
-      l.invariant.1 ∙ r.5,
+      l.auto.b ∙ r.5,
       r.7,
-      from-below a.p l.e l.l l.invariant.3.below,
+      from-below a.p l.e l.l l.invariant.below,
       r.9 l.l (omega arith),
     )
 
@@ -38,12 +30,4 @@ pub loop-l-preserved : goal.loop-l-preserved
 loop-l-preserved c =
     let a = c.args in
     let l = c.loop-l in
-    let x = digits_step a.p a.c.now a.a.now l.l a.e.now l.e _ (omega arith) l.invariant.3 c.digit.ensures.is in
-    (omega arith, c.digit.ensures.scratch ∙ l.invariant.1, x.long, x)
-
-pub returns : goal.returns
-returns c =
-    let a = c.args in
-    let l = c.loop-l in
-    let k : l.l ≡ length a.c.now = omega arith in
-    record { scratch = l.invariant.1; is = subst (λ n. Digits a.p a.c.now a.a.now n a.e.now l.e) k l.invariant.3 }
+    digits_step a.p a.c.now a.a.now l.l a.e.now l.e _ (omega arith) l.invariant c.digit.ensures.is

@@ -11,7 +11,7 @@ use Rattle.tiled.proofs.TiledLaws.{less_at}
 use Rattle.tiled.proofs.less_sums.Goals as goal
 
 pub loop-j-init : goal.loop-j-init
-loop-j-init c = (omega arith, omega arith, step_start _ _)
+loop-j-init c = (omega arith, step_start _ _)
 
 pub overflow_mul-j : goal.overflow_mul-j
 overflow_mul-j c = let a = c.args in omega (arith, row_fits c.loop-j.j (length a.e.now) a.n (omega arith))
@@ -31,7 +31,7 @@ less-requires c = let a = c.args in let r = c.requires in (r.0, r.1, r.7 (c.loop
 pub loop-j-preserved : goal.loop-j-preserved
 loop-j-preserved c =
     let a = c.args in
-    let w = writing-next _ (less_at a.p a.n a.t a.sums.now a.rows.now) _ _ _ c.loop-j.invariant.2 c.less.ensures (omega arith) in (omega arith, w.long, w)
+    let w = writing-next _ (less_at a.p a.n a.t a.sums.now a.rows.now) _ _ _ c.loop-j.invariant.1 c.less.ensures (omega arith) in (w.long, w)
 
 pub returns : goal.returns
-returns c = writing-all _ _ _ _ _ c.loop-j.invariant.2 (omega arith) ∙ over-whole _ _ (length-tabulate _ _)
+returns c = writing-all _ _ _ _ _ c.loop-j.invariant.1 (omega arith) ∙ over-whole _ _ (length-tabulate _ _)

@@ -1,7 +1,6 @@
 -- `tiled::less_sums` meets its contract. The loop's invariant: before j the words are what the sums leave, from there on the old ones.
 -- Assumes nothing.
 use mathlib.Core.Path.{◌≡◌}
-use Prim.Native.Nat.{◌≤◌, ◌-◌}
 use lib.ListN.{length}
 use Rattle.numbers.specs.Words.{tabulate}
 use Rattle.numbers.proofs.WordsLaws.{Writing}
@@ -9,7 +8,4 @@ use Rattle.tiled.proofs.TiledLaws.{less_at}
 use Rattle.tiled.proofs.less_sums.Given as goal
 
 abbrev pub invariant-loop-j : goal.invariant-loop-j
-invariant-loop-j l = (l.j ≤ length l.initial.e) × (length l.e ≡ length l.initial.e) × Writing (tabulate l.j (less_at l.p l.n l.t l.sums l.rows)) l.initial.e l.e
-
-abbrev pub decreases-loop-j : goal.decreases-loop-j
-decreases-loop-j l = length l.initial.e - l.j
+invariant-loop-j l = (length l.e ≡ length l.initial.e) × Writing (tabulate l.j (less_at l.p l.n l.t l.sums l.rows)) l.initial.e l.e

@@ -17,5 +17,5 @@ overflow_mul-k c = let a = c.args in let z : a.k * ((a.m + 7) / 8) ≤ 33 * 5 = 
 pub returns-then-m-k : goal.returns-then-m-k
 returns-then-m-k c = inl refl
 
-pub returns : goal.returns
-returns c = inr refl
+pub returns-else-m-k : goal.returns-else-m-k
+returns-else-m-k c = inr refl

@@ -33,23 +33,23 @@ overflow_mul-tile_count-2 c =
 pub slice_bounds-cells-end : goal.slice_bounds-cells-end
 slice_bounds-cells-end c = let a = c.args in let r = c.requires in cells_fit a.n a.m a.k c.paired_rows-paired.result r.0.lent.width r.3 r.4 r.0.bases.room c.paired_rows-paired.ensures
 
-pub slice_bounds-tiled_columns-end : goal.slice_bounds-tiled_columns-end
-slice_bounds-tiled_columns-end c = let a = c.args in let r = c.requires in sym (lent-long 1360 _ (cells_fit a.n a.m a.k c.paired_rows-paired.result r.0.lent.width r.3 r.4 r.0.bases.room c.paired_rows-paired.ensures))
+pub slice_bounds-columns-end : goal.slice_bounds-columns-end
+slice_bounds-columns-end c = let a = c.args in let r = c.requires in sym (lent-long 1360 _ (cells_fit a.n a.m a.k c.paired_rows-paired.result r.0.lent.width r.3 r.4 r.0.bases.room c.paired_rows-paired.ensures))
 
 pub slice_bounds-pairs-end : goal.slice_bounds-pairs-end
 slice_bounds-pairs-end c = let a = c.args in let r = c.requires in pairs-fit a.n a.m a.k c.paired_rows-paired.result r.0.lent.width r.3 r.4 r.0.bases.room c.paired_rows-paired.ensures
 
-pub slice_bounds-tiled_columns-end-2 : goal.slice_bounds-tiled_columns-end-2
-slice_bounds-tiled_columns-end-2 c = let a = c.args in let r = c.requires in sym (lent-long 15872 _ (pairs-fit a.n a.m a.k c.paired_rows-paired.result r.0.lent.width r.3 r.4 r.0.bases.room c.paired_rows-paired.ensures))
+pub slice_bounds-columns-end-2 : goal.slice_bounds-columns-end-2
+slice_bounds-columns-end-2 c = let a = c.args in let r = c.requires in sym (lent-long 15872 _ (pairs-fit a.n a.m a.k c.paired_rows-paired.result r.0.lent.width r.3 r.4 r.0.bases.room c.paired_rows-paired.ensures))
 
 pub slice_bounds-tiles-end : goal.slice_bounds-tiles-end
 slice_bounds-tiles-end c = let a = c.args in let r = c.requires in tiles-fit a.n a.m a.k c.paired_rows-paired.result r.0.lent.width r.3 r.4 r.0.bases.room c.paired_rows-paired.ensures
 
-pub slice_bounds-tiled_columns-end-3 : goal.slice_bounds-tiled_columns-end-3
-slice_bounds-tiled_columns-end-3 c = let a = c.args in let r = c.requires in sym (lent-long 8192 _ (tiles-fit a.n a.m a.k c.paired_rows-paired.result r.0.lent.width r.3 r.4 r.0.bases.room c.paired_rows-paired.ensures))
+pub slice_bounds-columns-end-3 : goal.slice_bounds-columns-end-3
+slice_bounds-columns-end-3 c = let a = c.args in let r = c.requires in sym (lent-long 8192 _ (tiles-fit a.n a.m a.k c.paired_rows-paired.result r.0.lent.width r.3 r.4 r.0.bases.room c.paired_rows-paired.ensures))
 
-pub tiled_columns-requires : goal.tiled_columns-requires
-tiled_columns-requires c =
+pub columns-requires : goal.columns-requires
+columns-requires c =
     let a = c.args in
     let r = c.requires in
     let b = r.0.bases in
@@ -60,5 +60,5 @@ tiled_columns-requires c =
       sizes-are a.n a.m a.k x w r.3 r.4 b.room side a.p (let z = b.two in omega arith) b.small b.low,
       r.1,
       r.2,
-      room-made a.n a.m a.k x w r.3 r.4 b.room side 1360 15872 8192 (cells_fit a.n a.m a.k x w r.3 r.4 b.room side) (pairs-fit a.n a.m a.k x w r.3 r.4 b.room side) (tiles-fit a.n a.m a.k x w r.3 r.4 b.room side),
+      room-made a.n a.m a.k x w r.3 r.4 b.room side a.p 1360 15872 8192 (cells_fit a.n a.m a.k x w r.3 r.4 b.room side) (pairs-fit a.n a.m a.k x w r.3 r.4 b.room side) (tiles-fit a.n a.m a.k x w r.3 r.4 b.room side),
     )

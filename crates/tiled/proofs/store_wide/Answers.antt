@@ -7,7 +7,7 @@ use Rattle.columns.proofs.ColumnLaws.{stored-none, stored_next, stored-all}
 use Rattle.tiled.proofs.store_wide.Goals as goal
 
 pub loop-j-init : goal.loop-j-init
-loop-j-init c = (omega arith, stored-none _ _ _)
+loop-j-init c = stored-none _ _ _
 
 pub overflow_cast-out : goal.overflow_cast-out
 overflow_cast-out c = omega (arith, c.shared_slice_known-1.given c.loop-j.j)
@@ -33,9 +33,9 @@ bounds-out-j c =
     omega (arith, row_fits c.loop-j.j (length a.e.now) a.n (omega arith))
 
 pub loop-j-preserved : goal.loop-j-preserved
-loop-j-preserved c = (omega arith, stored_next _ _ _ _ _ _ (omega arith) (omega arith) (omega arith) c.loop-j.invariant.1)
+loop-j-preserved c = stored_next _ _ _ _ _ _ (omega arith) (omega arith) (omega arith) c.loop-j.invariant
 
 pub returns : goal.returns
 returns c =
     let l = c.loop-j in
-    stored-all _ _ _ _ _ l.j l.invariant.1 (omega arith)
+    stored-all _ _ _ _ _ l.j l.invariant (omega arith)

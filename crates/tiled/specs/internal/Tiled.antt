@@ -6,8 +6,9 @@
 --                                     k rows from row b on in the lanes of tiles, with 0 past these
 --   ColumnPut N t a e old new         column t of the rows from row a on is e, the columns before it are as they were
 --   Beside N m k paired blocks t rows pairs tiles     so stand the m rows of P and the k of A: P's as pairs and A's as lanes, or the other way round
---   Sizes p N m k paired blocks high  the bounds of the numbers: `paired` rows stand as pairs, blocks tiles hold the others, and high tiles m + k lanes
---   Room N m k paired blocks high cells pairs tiles   the lengths of what stands beside the rows, and words below 2^24
+--   Stands g t rows pairs tiles       the same of a tiling's numbers
+--   Sizes g                           their bounds: `paired` rows stand as pairs, blocks tiles hold the others, and high tiles m + k lanes
+--   Room g cells pairs tiles          the lengths of what stands beside the rows, and words below 2^24
 -- Assumes nothing.
 use Rattle.std.specs.Prelude.{ℕ, ◌+◌, ◌-◌, ◌*◌, ◌%◌, ◌≤◌, ◌<◌, ◌≡◌, ◌⊎◌, List, leb, ltb, length}
 use Rattle.algebra.specs.Sums.{sum_to}
@@ -16,6 +17,7 @@ use Rattle.numbers.specs.internal.Facts.{AllBelow}
 use Rattle.numbers.specs.internal.Limits.{modulus_bound}
 use Rattle.numbers.specs.Limits.{largest_degree, most_rows, largest_width}
 use Rattle.tiles.specs.internal.Tile.{tile_at}
+use Rattle.tiled.specs.declared.Tiling.{Tiling}
 
 unfoldable pub lane_sum : (t N : ℕ) (pairs tiles : List ℕ) (a i : ℕ) → ℕ
 lane_sum t N pairs tiles a i = sum_to (t - 1) (λ s. word pairs (a * (2 * N) + (2 * (s + 1) + i % 2)) * tile_at N tiles (t - (s + 1)) i)
@@ -42,23 +44,26 @@ abbrev pub Beside : (N m k paired blocks t : ℕ) (rows pairs tiles : List ℕ) 
 Beside N m k paired blocks t rows pairs tiles =
     ((paired ≡ m) × Tiled N 0 m m k blocks t rows pairs tiles) ⊎ ((paired ≡ m → ⊥) × (paired ≡ k) × Tiled N m k 0 m blocks t rows pairs tiles)
 
-pub record Sizes (p N m k paired blocks high : ℕ) : Type 0 where
-  pub some : 1 ≤ p
-  pub small : p < modulus_bound
-  pub width : N ≤ largest_width
-  pub m-low : 1 ≤ m
-  pub room : m + k ≤ most_rows
-  pub either : (paired ≡ m) ⊎ (paired ≡ k)
-  pub paired-high : paired ≤ largest_degree
-  pub lanes : m + k ≤ paired + 8 * blocks
-  pub few : blocks ≤ 5
-  pub high-lanes : m + k ≤ 8 * high
-  pub high-few : high ≤ 5
+abbrev pub Stands : (g : Tiling) (t : ℕ) (rows pairs tiles : List ℕ) → Type 0
+Stands g t rows pairs tiles = Beside g.n g.m g.k g.paired g.blocks t rows pairs tiles
 
-pub record Room (N m k paired blocks high : ℕ) (cells pairs tiles : List ℕ) : Type 0 where
-  pub cells-long : length cells ≡ high * (8 * (m + k + 1))
-  pub pairs-long : length pairs ≡ paired * (2 * N)
-  pub tiles-long : length tiles ≡ blocks * (8 * N)
+pub record Sizes (g : Tiling) : Type 0 where
+  pub some : 1 ≤ g.p
+  pub small : g.p < modulus_bound
+  pub width : g.n ≤ largest_width
+  pub m-low : 1 ≤ g.m
+  pub room : g.m + g.k ≤ most_rows
+  pub either : (g.paired ≡ g.m) ⊎ (g.paired ≡ g.k)
+  pub paired-high : g.paired ≤ largest_degree
+  pub lanes : g.m + g.k ≤ g.paired + 8 * g.blocks
+  pub few : g.blocks ≤ 5
+  pub high-lanes : g.m + g.k ≤ 8 * g.high
+  pub high-few : g.high ≤ 5
+
+pub record Room (g : Tiling) (cells pairs tiles : List ℕ) : Type 0 where
+  pub cells-long : length cells ≡ g.high * (8 * (g.m + g.k + 1))
+  pub pairs-long : length pairs ≡ g.paired * (2 * g.n)
+  pub tiles-long : length tiles ≡ g.blocks * (8 * g.n)
   pub cells-below : AllBelow modulus_bound cells
   pub pairs_below : AllBelow modulus_bound pairs
   pub tiles-below : AllBelow modulus_bound tiles

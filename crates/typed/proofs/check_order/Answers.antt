@@ -2,14 +2,15 @@
 -- Assumes nothing.
 use mathlib.Core.Path.{sym, ◌∙◌}
 use Rattle.numbers.specs.Refusals.{modulus_checks}
-use Rattle.numbers.proofs.RefusalsLaws.{after-pass, after-told, take-check, skip-check, none-judged}
+use Rattle.numbers.proofs.RefusalsLaws.{after-pass, after-refuse, take-check, skip-check, none-judged, told-pass, told-refuse, handed-up}
 use Rattle.typed.proofs.check_order.Goals as goal
 
-pub returns-in-Refuse : goal.returns-in-Refuse
-returns-in-Refuse c = c.in-Refuse.is ∙ sym (after-told (modulus_checks c.args.p) _ _ _ c.check_modulus-v.ensures c.in-Refuse.is)
+pub returns-in_err-check_modulus : goal.returns-in_err-check_modulus
+returns-in_err-check_modulus c =
+    rw (handed-up c.from_residual.ensures.1) (sym (after-refuse (modulus_checks c.args.p) _ _ (told-refuse c.check_modulus.ensures c.in_err-check_modulus.was)))
 
 pub returns-then-outside : goal.returns-then-outside
-returns-then-outside c = c.refuse.ensures ∙ sym (after-pass (modulus_checks c.args.p) _ (sym c.check_modulus-v.ensures ∙ c.in_default.is) ∙ take-check _ _ (sym c.outside.ensures ∙ c.if-outside.true))
+returns-then-outside c = sym (after-pass (modulus_checks c.args.p) _ (told-pass c.check_modulus.ensures c.in_ok-check_modulus.was) ∙ take-check _ _ (sym c.outside.ensures ∙ c.if-outside.true))
 
 pub returns : goal.returns
-returns c = sym (after-pass (modulus_checks c.args.p) _ (sym c.check_modulus-v.ensures ∙ c.in_default.is) ∙ skip-check _ _ (sym c.outside.ensures ∙ c.if-outside.false) ∙ none-judged)
+returns c = sym (after-pass (modulus_checks c.args.p) _ (told-pass c.check_modulus.ensures c.in_ok-check_modulus.was) ∙ skip-check _ _ (sym c.outside.ensures ∙ c.if-outside.false) ∙ none-judged)

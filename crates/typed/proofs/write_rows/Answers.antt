@@ -19,7 +19,7 @@ use Rattle.typed.proofs.write_rows.Tie as tie
 pub returns-then-outside : goal.returns-then-outside
 returns-then-outside c =
     let a = c.args in
-    rows-refused a.p a.d a.n a.rows.now (sym c.outside.ensures ∙ c.if-outside.true) c.put_refusal.ensures
+    rows-refused a.p a.d a.n a.rows.now (sym c.outside.ensures ∙ c.if-outside.true) c.put_refused.ensures
 
 let-in : (b : step.Else1 tie.the-claims reads.Pre reads.Post) → outside 1 most_degree b.args.d ≡ false
 let-in b = sym b.outside.ensures ∙ b.if-outside.false

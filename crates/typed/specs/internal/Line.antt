@@ -6,15 +6,15 @@
 --   begins b s         s begins with the byte b
 --   order_end, order_rest, order_from   the order of an input from its second number's end on, from this number on, and from the first number on
 --   order_of s          the order of the input s
---   BlanksAt, NumberAt, LineIs   what the program answers, in terms of places
+--   told from v at      what is answered of a number of value v that was read from one place to another: nothing where it has no digit
+--   BlanksAt, NumberIs, NumberAt, LineIs   what the program answers, in terms of places
 -- Assumes nothing.
-use Rattle.std.specs.Prelude.{ℕ, suc, ◌+◌, ◌-◌, ◌*◌, ◌≤◌, ◌≡◌, Bool, false, ◌||◌, List, [], ◌∷◌, eqb, leb, length, drop}
+use Rattle.std.specs.Prelude.{ℕ, suc, ◌+◌, ◌-◌, ◌*◌, ◌≤◌, ◌≡◌, Bool, false, ◌||◌, List, [], ◌∷◌, Option, Some, None, eqb, leb, ltb, length, drop}
 use Rattle.numbers.specs.Words.{choose, outside}
 use Rattle.formula.specs.Limits.{most_digits}
 use Rattle.typed.specs.Order.{Order, asks, none, unended}
 use Rattle.typed.specs.declared.line.Number.{Number}
 use Rattle.typed.specs.declared.line.Line.{Line}
-use Rattle.typed.specs.declared.line.Line.TheVariants.{Asked, Other}
 
 unfoldable pub after_blanks : List ℕ → List ℕ
 after_blanks [] = []
@@ -56,12 +56,20 @@ pub record BlanksAt (s : List ℕ) (from at : ℕ) : Type 0 where
   pub fits : at ≤ length s
   pub rest-is : drop at s ≡ after_blanks (drop from s)
 
-pub record NumberAt (f : Figures) (s : List ℕ) (r : Number) : Type 0 where
+-- what was read from one place to another
+abbrev pub told : (from value at : ℕ) → Option Number
+told from v at = choose (ltb from at) (Some (record { value = v; at = at })) None
+
+pub record NumberIs (f : Figures) (s : List ℕ) (r : Number) : Type 0 where
+  pub some : f.count ≡ 0 → ⊥
   pub value-is : r.value ≡ f.value
-  pub count-is : r.count ≡ f.count
   pub rest-is : drop r.at s ≡ f.rest
   pub fits : r.at ≤ length s
 
-abbrev pub LineIs : Order → List ℕ → Line → Type 0
-LineIs o s (Asked p n from) = (from ≤ length s) × (o ≡ asks p n (unended (drop from s)))
-LineIs o s Other = o ≡ none
+abbrev pub NumberAt : Figures → List ℕ → Option Number → Type 0
+NumberAt f s None = f.count ≡ 0
+NumberAt f s (Some r) = NumberIs f s r
+
+abbrev pub LineIs : Order → List ℕ → Option Line → Type 0
+LineIs o s (Some l) = (l.text ≤ length s) × (o ≡ asks l.modulus l.terms (unended (drop l.text s)))
+LineIs o s None = o ≡ none

@@ -6,8 +6,7 @@
 --   WroteKey         the text of an input
 -- Assumes nothing.
 use Rattle.std.specs.Prelude.{ℕ, ◌+◌, ◌*◌, List, [], take}
-use Rattle.numbers.specs.Refusals.{judge}
-use Rattle.numbers.specs.declared.refusal.Verdict.{Verdict}
+use Rattle.numbers.specs.Refusals.{judge, Verdict}
 use Rattle.sheet.specs.Sheet.{Given, whole_of}
 use Rattle.open.specs.Find.{with_roots}
 use Rattle.text.specs.Limits.{text_room}

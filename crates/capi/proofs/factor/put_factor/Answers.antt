@@ -10,7 +10,6 @@ use Rattle.layout.specs.internal.Places.{Placed}
 use Rattle.layout.proofs.PlacesLaws.{placed-entries, Small, factor-small}
 use Rattle.sheet.proofs.ReadingLaws.{sound-placed}
 use Rattle.capi.proofs.FactorLaws.{factor-put}
-use borrow.Author.Rules.{rules}
 use Rattle.capi.proofs.factor.put_factor.Goals as goal
 use Rattle.capi.proofs.factor.put_factor.Lts as step
 use Rattle.capi.proofs.factor.put_factor.Reads as reads

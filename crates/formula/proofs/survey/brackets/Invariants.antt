@@ -1,13 +1,10 @@
--- `formula::survey::brackets` meets its contract.
+-- `formula::survey::brackets` meets its contract: the rest of the text goes as deep as the text does.
 -- Assumes nothing.
 use mathlib.Core.Path.{◌≡◌}
-use Prim.Native.Nat.{◌-◌, ◌≤◌}
-use lib.ListN.{length, drop}
+use Prim.Native.Nat.{◌≤◌}
+use lib.ListN.{drop}
 use Rattle.formula.specs.internal.Survey.{deepest}
 use Rattle.formula.proofs.survey.brackets.Given as goal
 
-abbrev pub invariant-loop-i : goal.invariant-loop-i
-invariant-loop-i l = (l.i ≤ length l.text) × (l.level ≤ l.i) × (deepest 0 0 l.text ≡ deepest l.level l.most (drop l.i l.text))
-
-abbrev pub decreases-loop-i : goal.decreases-loop-i
-decreases-loop-i l = length l.text - l.i
+abbrev pub invariant-loop-b : goal.invariant-loop-b
+invariant-loop-b l = (l.level ≤ l.b-index) × (deepest 0 0 l.text ≡ deepest l.level l.most (drop l.b-index l.text))

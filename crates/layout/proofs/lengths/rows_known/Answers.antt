@@ -17,9 +17,6 @@ use Rattle.layout.proofs.lengths.rows_known.Lts as step
 use Rattle.layout.proofs.lengths.rows_known.Reads as reads
 use Rattle.layout.proofs.lengths.rows_known.Tie as tie
 
-pub loop-j-init : goal.loop-j-init
-loop-j-init c = (omega arith, λ k l. absurd (let z : ⊥ = omega arith in z))
-
 -- row j ends within the rows
 ends : (b : step.In-loop tie.the-claims reads.Pre reads.Post goal.the-invariant-loop-j goal.the-decreases-loop-j) → let a = b.args in (b.loop-j.j * a.n + a.n ≤ length a.lengths.now * a.n) × (length a.lengths.now * a.n ≤ 8448)
 ends b =
@@ -35,29 +32,11 @@ found b =
     let z = ends b.before.before.before in
     b.known_to.ensures ∙ row-known a.rows.now a.n l (word a.lengths.now l) (omega arith)
 
-pub overflow_mul-a : goal.overflow_mul-a
-overflow_mul-a c = let z = ends c.before in omega arith
-
-pub overflow_add-e : goal.overflow_add-e
-overflow_add-e c = let z = ends c.before in omega arith
-
-pub offset_bounds-rows-a : goal.offset_bounds-rows-a
-offset_bounds-rows-a c = let z = ends c.before in omega arith
-
-pub slice_bounds-known_to-count : goal.slice_bounds-known_to-count
-slice_bounds-known_to-count c = let z = ends c.before in omega arith
-
-pub slice_bounds-known_to-start : goal.slice_bounds-known_to-start
-slice_bounds-known_to-start c = let z = ends c.before in omega arith
-
-pub slice_bounds-known_to-end : goal.slice_bounds-known_to-end
-slice_bounds-known_to-end c = let z = ends c.before in omega arith
-
 pub returns-then-not-known_to : goal.returns-then-not-known_to
 returns-then-not-known_to c = rows-known-not _ _ _ _ c.loop-j.j (omega arith) (sym (found c.before.before) ∙ c.if-not-known_to.true)
 
 pub loop-j-preserved : goal.loop-j-preserved
-loop-j-preserved c = let a = c.args in (omega arith, below_more (λ l. known_to a.n (word a.lengths.now l) (rows_at a.rows.now 0 a.n l) ≡ true) _ c.loop-j.invariant.1 (sym (found c.before.before) ∙ c.if-not-known_to.false))
+loop-j-preserved c = let a = c.args in below_more (λ l. known_to a.n (word a.lengths.now l) (rows_at a.rows.now 0 a.n l) ≡ true) _ c.loop-j.invariant (sym (found c.before.before) ∙ c.if-not-known_to.false)
 
 pub returns : goal.returns
-returns c = rows-known-all _ _ _ _ (λ j l. c.loop-j.invariant.1 j (omega arith))
+returns c = rows-known-all _ _ _ _ (λ j l. c.loop-j.invariant j (omega arith))

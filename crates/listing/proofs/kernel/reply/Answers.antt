@@ -5,12 +5,12 @@ use Rattle.numbers.specs.Refusals.{outcome}
 use Rattle.listing.proofs.ListingLaws.{listed-never, listed-as}
 use Rattle.listing.proofs.kernel.reply.Goals as goal
 
-pub returns-in-Done : goal.returns-in-Done
-returns-in-Done c =
+pub returns-in-Ok : goal.returns-in-Ok
+returns-in-Ok c =
     let a = c.args in
-    listed-as a.profile a.job.now a.text.now _ _ c.list_as.ensures _ (ap outcome c.in-Done.is)
+    listed-as a.profile a.job.now a.text.now _ _ c.list_as.ensures _ (ap outcome c.in-Ok.is)
 
-pub returns-in-Refused : goal.returns-in-Refused
-returns-in-Refused c =
+pub returns-in-Err : goal.returns-in-Err
+returns-in-Err c =
     let a = c.args in
-    listed-never a.profile a.job.now a.text.now _ _ c.list_as.ensures _ _ (ap outcome c.in-Refused.is) c.requires
+    listed-never a.profile a.job.now a.text.now _ _ c.list_as.ensures _ _ (ap outcome c.in-Err.is) c.requires

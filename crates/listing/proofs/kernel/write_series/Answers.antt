@@ -1,10 +1,11 @@
 -- `listing::kernel::write_series` meets its contract: refusal 22, or the series of the roots.
 -- Assumes nothing.
+use Rattle.numbers.proofs.RefusalsLaws.{told-pass, told-refuse}
 use mathlib.Core.Path.{◌≡◌, refl, sym, ◌∙◌}
 use Prim.Native.Nat.{◌*◌, ◌≤◌}
 use native.Mathlib.Omega.{arith}
 use lib.Seq.{length-take-le}
-use Rattle.numbers.specs.declared.refusal.Verdict.TheVariants.{Pass}
+use Rattle.numbers.specs.Refusals.{Pass}
 use Rattle.layout.specs.Layout.{count, width}
 use Rattle.job.specs.Limits.{most_degree, most_width}
 use Rattle.text.specs.Limits.{text_room}
@@ -17,15 +18,14 @@ use Rattle.listing.proofs.kernel.write_series.Lts as step
 use Rattle.listing.proofs.kernel.write_series.Reads as reads
 use Rattle.listing.proofs.kernel.write_series.Tie as tie
 
-pub returns-in-Refuse : goal.returns-in-Refuse
-returns-in-Refuse c =
-    let s = c.args.sheet.now in
-    let e = sym c.check_multiple.ensures ∙ c.in-Refuse.is in
-    record { text = _; is = roots-refused s _ e; puts = puts-as text_room _ c.put_refusal.ensures refl (omega arith) }
+pub returns-in-Err : goal.returns-in-Err
+returns-in-Err c =
+    let e = told-refuse c.check_multiple.ensures c.in-Err.is in
+    record { text = _; is = roots-refused c.args.sheet.now _ e; puts = puts-as text_room _ c.put_refused.ensures refl (omega arith) }
 
 -- 22 is not given
 passed : (b : step.Past-After-enum_told tie.the-claims reads.Pre reads.Post) → multiple_verdict b.args.sheet.now ≡ Pass
-passed b = sym b.check_multiple.ensures ∙ b.in_default.is
+passed b = told-pass b.check_multiple.ensures b.in_default.is
 
 -- the words of the series
 size : (b : step.After-read_header tie.the-claims reads.Pre reads.Post) → let s = b.args.sheet.now in b.read_header-h.result.count * b.read_header-h.result.width ≡ count s * width s

@@ -13,7 +13,7 @@ use Rattle.numbers.proofs.judge.check_modulus.Reads as reads
 use Rattle.numbers.proofs.judge.check_modulus.Tie as tie
 
 pub returns-then-outside : goal.returns-then-outside
-returns-then-outside c = c.refuse.ensures ∙ sym (take-check _ _ (sym c.outside.ensures ∙ c.if-outside.true))
+returns-then-outside c = sym (take-check _ _ (sym c.outside.ensures ∙ c.if-outside.true))
 
 -- check 1 has passed
 in-range : (b : step.Else1 tie.the-claims reads.Pre reads.Post) → outside 2 largest_modulus b.args.p ≡ false
@@ -24,8 +24,8 @@ least_divisor-d-requires c = let (low, high) = inside 2 largest_modulus _ (in-ra
 
 pub returns-then-d-p : goal.returns-then-d-p
 returns-then-d-p c =
-    let (low, high) = inside 2 largest_modulus _ (in-range c.before.before.before) in
-    c.refuse-then-d-p.ensures ∙ sym (modulus-composite _ _ low high (sym c.least_divisor-d.ensures) c.if-d-p.true)
+    let (low, high) = inside 2 largest_modulus _ (in-range c.before.before) in
+    sym (modulus-composite _ _ low high (sym c.least_divisor-d.ensures) c.if-d-p.true)
 
 pub returns : goal.returns
 returns c = sym (skip-check _ _ (in-range c.before.before) ∙ skip-check _ _ (simp (← c.least_divisor-d.ensures) (le-ltb _ _ c.if-d-p.false)) ∙ none-judged)

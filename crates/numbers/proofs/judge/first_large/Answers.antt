@@ -1,23 +1,17 @@
--- `numbers::judge::first_large` meets its contract. The loop's invariant: every word before i is below p.
+-- `numbers::judge::first_large` meets its contract.
 -- Assumes nothing.
-use mathlib.Core.Path.{sym}
-use Prim.Native.Nat.{◌<◌}
-use native.Mathlib.Omega.{arith}
-use borrow.Author.Count.{below_more}
-use lib.ListN.{get_or}
-use Rattle.numbers.proofs.WordsLaws.{first-large-is}
-use borrow.Author.Rules.{rules}
+use mathlib.Core.Path.{refl, sym, ◌∙◌}
+use Prim.Native.Nat.{◌≤◌, ◌<◌}
+use borrow.Author.Tests.{le-leb, lt-leb}
+use Rattle.std.proofs.Common.{rules, tests, arith}
+use Rattle.std.proofs.lemmas.Iterator.{IsFirst-from_position, index_from_first, YieldsList-from_slice}
+use Rattle.numbers.specs.Words.{first_large}
 use Rattle.numbers.proofs.judge.first_large.Goals as goal
 
-pub loop-i-preserved : goal.loop-i-preserved
-loop-i-preserved c =
-    let a = c.args in
-    (search rules, below_more (λ k. get_or a.s.now k 0 < a.p) _ c.loop-i.invariant.1 c.if-p-s.false)
-
-pub returns-after-loop-i : goal.returns-after-loop-i
-returns-after-loop-i c = sym (first-large-is _ _ _ c.loop-i.invariant.0 c.loop-i.invariant.1 (λ h. omega arith))
-
-pub returns-then-p-s : goal.returns-then-p-s
-returns-then-p-s c =
-    let i = c.loop-i.invariant in
-    sym (first-large-is _ _ _ i.0 i.1 (λ h. c.if-p-s.true))
+pub returns : goal.returns
+unfolding first_large
+returns c =
+    let p = c.args.p in
+    let s = c.args.s.now in
+    let first = IsFirst-from_position _ _ _ (λ x. p ≤ x) (λ x. x < p) c.position.ensures.ran (YieldsList-from_slice s cc) (λ x q k. search (rules, tests)) (λ x q k. search (rules, tests)) in
+    c.unwrap_or.ensures ∙ sym (index_from_first (first_large p) (λ x. p ≤ x) (λ x. x < p) refl (λ x xs h. rw (le-leb p x h)) (λ x xs h. rw (lt-leb p x h) (omega arith)) s _ first)

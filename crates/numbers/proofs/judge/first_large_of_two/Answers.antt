@@ -19,8 +19,8 @@ overflow_add-result c =
     let a = c.args in
     omega (arith, large-le a.p a.f.now, large-le a.p a.g.now, c.first_large-i.ensures, c.first_large.ensures)
 
-pub returns : goal.returns
-returns c =
+pub returns-else-i-f : goal.returns-else-i-f
+returns-else-i-f c =
     let a = c.args in
     let e = c.first_large-i.ensures in
     let h : length a.f.now ≤ first_large a.p a.f.now = omega arith in

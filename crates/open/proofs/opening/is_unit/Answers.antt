@@ -1,28 +1,39 @@
--- `open::opening::is_unit` meets its contract. The loop's invariant: the words before t are those of 1, 0, 0, ..
+-- `open::opening::is_unit` meets its contract.
 -- Assumes nothing.
-use mathlib.Core.Path.{◌≡◌, ◌∙◌, sym}
+use mathlib.Core.Path.{◌≡◌, sym, ap, ◌∙◌}
+use mathlib.Core.Bool.{Bool, true, false}
+use mathlib.Core.List.{List}
+use mathlib.Core.Logic.{◌≢◌}
+use Prim.Native.Nat.{ℕ, zero, suc, ◌+◌, ◌≤◌, ◌<◌}
 use native.Mathlib.Omega.{arith}
-use borrow.Author.Count.{below_more}
+use borrow.Author.Rules.{rules}
+use borrow.Author.Tests.{ne_eqb, tests}
+use lib.ListN.{length}
+use Rattle.std.specs.Bool.{MatchBool}
+use Rattle.std.specs.List.{AllWithin, HoldsAt}
+use Rattle.std.proofs.lemmas.Iterator.{cases_from_all, YieldsList-from_slice}
 use Rattle.numbers.specs.Words.{word}
+use Rattle.numbers.proofs.WordsLaws.{from, length_from, word-from}
 use Rattle.rows.specs.Rows.{unit}
 use Rattle.sheet.proofs.WorkLaws.{unit-later}
-use Rattle.open.proofs.OpenChecksLaws.{unit-fails, unit-passes, one-first}
+use Rattle.open.specs.internal.Opening.{is_unit}
+use Rattle.open.proofs.OpenChecksLaws.{unit-fails, unit-passes}
 use Rattle.open.proofs.opening.is_unit.Goals as goal
 
-pub returns-then-s-ne1 : goal.returns-then-s-ne1
-returns-then-s-ne1 c = unit-fails c.args.s.now 0 (omega arith) c.if-s-ne1.true
+-- what is found of the words past the first
+by_rest : (s : List ℕ) (r : Bool) → 1 ≤ length s → word s 0 ≡ 1
+    → MatchBool r (AllWithin (λ x. x ≡ 0) (from s 1) 0 (length (from s 1))) ((k : ℕ) × (k < length (from s 1)) × HoldsAt (λ x. x ≢ 0) (from s 1) k) → r ≡ is_unit s
+by_rest s true some first h = unit-passes s (length s) (omega arith) later
+  where
+    later : (k : ℕ) → k < length s → word s k ≡ unit k
+    later zero l = first
+    later (suc k) l = ap (word s) (let e : suc k ≡ 1 + k = omega arith in e) ∙ sym (word-from s 1 k) ∙ h k 0 (omega arith) (omega (arith, length_from s 1))
+by_rest s false some first (k, l, ne) = unit-fails s (1 + k) (omega (arith, length_from s 1)) (λ e. ne 0 (word-from s 1 k ∙ e ∙ unit-later (1 + k) (omega arith)))
 
-pub loop-t-init : goal.loop-t-init
-loop-t-init c = (omega arith, omega arith, one-first c.args.s.now (let z : word c.args.s.now 0 ≡ 1 = omega arith in z))
+pub returns-then-s-eq1 : goal.returns-then-s-eq1
+returns-then-s-eq1 c =
+    by_rest c.args.s.now _ (omega arith) c.if-s-eq1.true
+    (cases_from_all _ _ _ (λ x. x ≡ 0) (λ x. x ≢ 0) c.all.ensures.ran (YieldsList-from_slice (from c.args.s.now 1) c.iter.ensures.rest) (λ x q k. search (rules, tests)) (λ x q k. search (rules, tests)))
 
-pub returns-then-s-t-ne0 : goal.returns-then-s-t-ne0
-returns-then-s-t-ne0 c = unit-fails c.args.s.now c.loop-t.t (omega arith) (λ e. c.if-s-t-ne0.true (e ∙ unit-later c.loop-t.t (omega arith)))
-
-pub loop-t-preserved : goal.loop-t-preserved
-loop-t-preserved c =
-    let l = c.loop-t in
-    let a = c.args in
-    (omega arith, omega arith, below_more (λ k. word a.s.now k ≡ unit k) _ l.invariant.2 (let z : word a.s.now l.t ≡ 0 = omega arith in z ∙ sym (unit-later l.t (omega arith))))
-
-pub returns : goal.returns
-returns c = unit-passes c.args.s.now c.loop-t.t (omega arith) c.loop-t.invariant.2
+pub returns-else-s-eq1 : goal.returns-else-s-eq1
+returns-else-s-eq1 c = ne_eqb _ 1 c.if-s-eq1.false ∙ unit-fails c.args.s.now 0 (omega arith) c.if-s-eq1.false

@@ -1,7 +1,5 @@
 -- `open::writing::spread` meets its contract. The loop's invariant: the rows before j are written.
 -- Assumes nothing.
-use Prim.Native.Nat.{◌-◌, ◌≤◌}
-use lib.ListN.{length}
 use Rattle.numbers.specs.Words.{word}
 use Rattle.numbers.proofs.WordsLaws.{Writing}
 use Rattle.rows.specs.Rows.{table}
@@ -9,7 +7,4 @@ use Rattle.hensel.specs.Factors.{flat}
 use Rattle.open.proofs.writing.spread.Given as goal
 
 abbrev pub invariant-loop-j : goal.invariant-loop-j
-invariant-loop-j l = (l.j ≤ length l.column) × Writing (table l.j l.n (flat (word l.column))) l.initial.out l.out
-
-abbrev pub decreases-loop-j : goal.decreases-loop-j
-decreases-loop-j l = length l.column - l.j
+invariant-loop-j l = Writing (table l.j l.n (flat (word l.column))) l.initial.out l.out

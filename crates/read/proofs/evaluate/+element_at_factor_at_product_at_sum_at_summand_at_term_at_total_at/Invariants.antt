@@ -5,8 +5,7 @@ use Prim.Native.Nat.{◌+◌, ◌-◌, ◌*◌}
 use lib.ListN.{length}
 use Rattle.formula.specs.Formula.{Lead}
 use Rattle.read.specs.internal.Places.{is_minus}
-use Rattle.read.specs.internal.Parts.{TermRun, SumRun, Opens, past_star, past_sign}
-use Rattle.read.proofs.RunLaws.{left_from}
+use Rattle.read.specs.internal.Parts.{TermRead, SumRead, Opens}
 use Rattle.read.proofs.evaluate.+element_at_factor_at_product_at_sum_at_summand_at_term_at_total_at.Given as goal
 
 abbrev pub decreases-element_at : goal.decreases-element_at
@@ -32,14 +31,14 @@ decreases-total_at l = (length l.text.now - l.at) * 7 + 5
 
 abbrev pub invariant-product_at-loop-next : goal.invariant-product_at-loop-next
 invariant-product_at-loop-next l =
-    (length l.product ≡ 8448) × (length l.factor ≡ 8448) × (l.next ≡ past_star l.text l.run) × TermRun l.p l.n l.text l.at l.run l.product
+    (length l.product ≡ 8448) × (length l.factor ≡ 8448) × TermRead l.ring.p l.ring.n l.text l.at l.run l.product
 
 abbrev pub decreases-product_at-loop-next : goal.decreases-product_at-loop-next
-decreases-product_at-loop-next l = left_from l.text l.next
+decreases-product_at-loop-next l = length l.text - l.run.at
 
-abbrev pub invariant-total_at-loop-next : goal.invariant-total_at-loop-next
-invariant-total_at-loop-next l =
-    (length l.total ≡ 8448) × (length l.term ≡ 8448) × (l.next ≡ past_sign l.text l.run) × ((d : Lead) → l.minus ≡ is_minus d → SumRun l.p l.n l.text (Opens d) l.at l.run l.total)
+abbrev pub invariant-total_at-loop-sign : goal.invariant-total_at-loop-sign
+invariant-total_at-loop-sign l =
+    (length l.total ≡ 8448) × (length l.term ≡ 8448) × ((d : Lead) → l.minus ≡ is_minus d → SumRead l.ring.p l.ring.n l.text (Opens d) l.at l.run l.total)
 
-abbrev pub decreases-total_at-loop-next : goal.decreases-total_at-loop-next
-decreases-total_at-loop-next l = left_from l.text l.next
+abbrev pub decreases-total_at-loop-sign : goal.decreases-total_at-loop-sign
+decreases-total_at-loop-sign l = length l.text - l.run.at

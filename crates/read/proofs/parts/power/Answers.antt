@@ -1,26 +1,35 @@
 -- `read::parts::power` meets its contract.
 -- Assumes nothing.
-use mathlib.Core.Path.{◌≡◌, subst}
-use Rattle.read.specs.declared.Part.TheVariants.{Value, Nothing}
-use Rattle.read.specs.internal.Parts.{Within}
-use Rattle.read.proofs.ElementLaws.{power-raised}
-use Rattle.read.proofs.RunLaws.{element-lost, element-known}
+use mathlib.Core.Path.{◌≡◌, sym, ◌∙◌}
+use native.Mathlib.Omega.{arith}
+use Rattle.std.specs.Prelude.{None}
+use Rattle.formula.specs.Formula.{letter_x}
+use Rattle.read.proofs.NumberLaws.{caret-inside, raise-plain, raise-none, raise-high, raise-value, power-read, power-lost}
 use Rattle.read.proofs.parts.power.Goals as goal
 
-pub returns-in_default : goal.returns-in_default
-returns-in_default c =
-    let the-args = c.args in
-    λ at h. let m : the-args.element ≡ Nothing = cc in element-lost the-args.p the-args.n the-args.text.now at the-args.element the-args.out.now h m
+pub returns-then-not-has_byte : goal.returns-then-not-has_byte
+returns-then-not-has_byte c =
+    let a = c.args in
+    λ at h. power-read a.ring.p a.ring.n a.text.now at a.element _ h _ _ (raise-plain a.ring.p a.ring.n _ _ _ c.look-q.ensures h.tree _ _ (sym c.has_byte.ensures ∙ c.if-not-has_byte.true) h.stored h.low)
 
-pub raise_at-requires : goal.raise_at-requires
-raise_at-requires c =
-    let the-pre = c.requires in
-    let the-args = c.args in
-    let m : the-args.element ≡ Value c.in-Value.next c.in-Value.rows = cc in
-    let a = subst (Within the-args.text.now) m the-pre.5 in
-    (the-pre.0, the-pre.1, the-pre.2, the-pre.3, a.0, the-pre.4, a.1, a.2)
+pub exponent_at-requires : goal.exponent_at-requires
+exponent_at-requires c =
+    let l = caret-inside 0 0 _ _ _ c.look-q.ensures letter_x (sym c.has_byte.ensures ∙ c.if-not-has_byte.false) in
+    omega arith
+
+pub returns-in_err-r : goal.returns-in_err-r
+returns-in_err-r c =
+    let a = c.args in
+    let e : c.from_residual.result ≡ None = cc in
+    rw e (λ at h. power-lost a.ring.p a.ring.n a.text.now at a.element _ h (raise-none a.ring.p a.ring.n _ _ _ c.look-q.ensures h.tree (sym c.has_byte.ensures ∙ c.if-not-has_byte.false) c.in_err-r.ensures))
+
+pub returns-in_err-rows : goal.returns-in_err-rows
+returns-in_err-rows c =
+    let a = c.args in
+    let e : c.from_residual-in_err-rows.result ≡ None = cc in
+    rw e (λ at h. power-lost a.ring.p a.ring.n a.text.now at a.element _ h (raise-high a.ring.p a.ring.n _ _ _ c.look-q.ensures h.tree (sym c.has_byte.ensures ∙ c.if-not-has_byte.false) _ c.in_ok-r.ensures (c.in_err-rows.ensures _ h.stored)))
 
 pub returns : goal.returns
 returns c =
-    let the-args = c.args in
-    λ at h. let m : the-args.element ≡ Value c.in-Value.next c.in-Value.rows = cc in let k = element-known the-args.p the-args.n the-args.text.now at the-args.element the-args.out.now h _ _ m in power-raised the-args.p the-args.n _ _ _ _ _ k c.raise_at.result c.raise_at.new.out (c.raise_at.ensures k.tree k.stored k.low)
+    let a = c.args in
+    λ at h. power-read a.ring.p a.ring.n a.text.now at a.element _ h _ _ (raise-value a.ring.p a.ring.n _ _ _ c.look-q.ensures h.tree (sym c.has_byte.ensures ∙ c.if-not-has_byte.false) _ c.in_ok-r.ensures _ _ (c.in_ok-rows.ensures _ h.stored) h.low)

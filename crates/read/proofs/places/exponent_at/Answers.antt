@@ -1,31 +1,27 @@
 -- `read::places::exponent_at` meets its contract.
 -- Assumes nothing.
+use mathlib.Core.Path.{sym, subst}
 use native.Mathlib.Omega.{arith}
+use Rattle.std.specs.Prelude.{Option}
+use Rattle.read.specs.declared.Number.{Number}
+use Rattle.read.specs.internal.Places.{Exponent}
 use Rattle.read.proofs.NumberLaws.{digit-inside, digit-nine, exponent-none, exponent-many, exponent-large, exponent-value}
 use Rattle.read.proofs.places.exponent_at.Goals as goal
 
-pub returns-then-d-eq10 : goal.returns-then-d-eq10
-returns-then-d-eq10 c = exponent-none _ _ _ c.look-q.ensures _ c.digit_at-d.ensures c.if-d-eq10.true
+pub returns-in_err-d : goal.returns-in_err-d
+returns-in_err-d c = subst (λ (x : Option Number). Exponent c.args.text.now c.args.at x) (sym c.from_residual.ensures) (exponent-none _ _ _ c.look-q.ensures (sym c.in_err-d.ensures))
 
-pub overflow_add-q : goal.overflow_add-q
-overflow_add-q c =
-    let l = digit-inside _ _ _ c.digit_at-d.ensures c.if-d-eq10.false in
-    record { fits = omega arith }
-
-pub digits_at-r-requires : goal.digits_at-r-requires
-digits_at-r-requires c =
-    let l = digit-inside _ _ _ c.digit_at-d.ensures c.if-d-eq10.false in
-    let k = digit-nine _ _ _ c.digit_at-d.ensures c.if-d-eq10.false in
+pub digits_at-requires : goal.digits_at-requires
+digits_at-requires c =
+    let l = digit-inside _ _ _ (sym c.in_ok-d.ensures) in
+    let k = digit-nine _ _ _ (sym c.in_ok-d.ensures) in
     omega arith
 
-pub look-requires : goal.look-requires
-look-requires c = c.digits_at-r.ensures.fits
+pub returns-in_err-r : goal.returns-in_err-r
+returns-in_err-r c = subst (λ (x : Option Number). Exponent c.args.text.now c.args.at x) (sym c.from_residual-in_err-r.ensures) (exponent-many _ _ _ c.look-q.ensures _ (sym c.in_ok-d.ensures) c.in_err-r.ensures)
 
-pub returns-then-value-le-LARGEST_POWER : goal.returns-then-value-le-LARGEST_POWER
-returns-then-value-le-LARGEST_POWER c = exponent-value _ _ _ c.look-q.ensures _ c.digit_at-d.ensures c.if-d-eq10.false _ c.digits_at-r.ensures c.if-few.true c.if-value-le-LARGEST_POWER.true _ c.look.ensures
+pub returns-then-r-le-LARGEST_POWER : goal.returns-then-r-le-LARGEST_POWER
+returns-then-r-le-LARGEST_POWER c = exponent-value _ _ _ c.look-q.ensures _ (sym c.in_ok-d.ensures) _ c.in_ok-r.ensures c.if-r-le-LARGEST_POWER.true _ c.look.ensures
 
-pub returns-else-value-le-LARGEST_POWER : goal.returns-else-value-le-LARGEST_POWER
-returns-else-value-le-LARGEST_POWER c = exponent-large _ _ _ c.look-q.ensures _ c.digit_at-d.ensures c.if-d-eq10.false _ c.digits_at-r.ensures c.if-few.true c.if-value-le-LARGEST_POWER.false
-
-pub returns-else-few : goal.returns-else-few
-returns-else-few c = exponent-many _ _ _ c.look-q.ensures _ c.digit_at-d.ensures c.if-d-eq10.false _ c.digits_at-r.ensures c.if-few.false
+pub returns-else-r-le-LARGEST_POWER : goal.returns-else-r-le-LARGEST_POWER
+returns-else-r-le-LARGEST_POWER c = exponent-large _ _ _ c.look-q.ensures _ (sym c.in_ok-d.ensures) _ c.in_ok-r.ensures c.if-r-le-LARGEST_POWER.false

@@ -1,4 +1,4 @@
--- `read::evaluate::has_byte` meets its contract.
+-- `read::places::has_byte` meets its contract.
 -- Assumes nothing.
 use borrow.Author.Tests.{lt-ltb, le-ltb}
 use Rattle.read.specs.internal.Places.{has_byte}
@@ -8,6 +8,6 @@ pub returns-then-at-text : goal.returns-then-at-text
 unfolding has_byte
 returns-then-at-text c = simp (lt-ltb _ _ c.if-at-text.true)
 
-pub returns : goal.returns
+pub returns-else-at-text : goal.returns-else-at-text
 unfolding has_byte
-returns c = simp (le-ltb _ _ c.if-at-text.false)
+returns-else-at-text c = simp (le-ltb _ _ c.if-at-text.false)

@@ -4,8 +4,5 @@ use native.Mathlib.Omega.{arith}
 use Rattle.read.proofs.ValueLaws.{stored-constant}
 use Rattle.read.proofs.values.set_number.Goals as goal
 
-pub shape_of-out : goal.shape_of-out
-shape_of-out c = c.set_single.auto.out
-
 pub returns : goal.returns
 returns c = stored-constant _ _ _ _ (omega arith) c.set_single.ensures

@@ -4,8 +4,5 @@ use native.Mathlib.Omega.{arith}
 use Rattle.read.proofs.ValueLaws.{stored-y}
 use Rattle.read.proofs.values.set_y.Goals as goal
 
-pub shape_of-out : goal.shape_of-out
-shape_of-out c = c.set_single.auto.out
-
 pub returns : goal.returns
 returns c = stored-y _ _ _ (omega arith) (omega arith) c.set_single.ensures

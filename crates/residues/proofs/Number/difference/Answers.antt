@@ -1,10 +1,10 @@
 -- `residues::Number::difference` meets its contract: where the check passes both operands are below p.
 -- Assumes nothing.
-use mathlib.Core.Path.{◌≡◌, ◌∙◌, sym}
+use Rattle.numbers.proofs.RefusalsLaws.{told-pass, told-refuse, handed-up}
+use mathlib.Core.Path.{◌≡◌}
 use mathlib.Core.List.{[], ◌∷◌}
 use native.Mathlib.Omega.{arith}
-use Rattle.numbers.specs.Refusals.{judge}
-use Rattle.numbers.specs.declared.refusal.Verdict.TheVariants.{Pass}
+use Rattle.numbers.specs.Refusals.{judge, Pass}
 use Rattle.residues.specs.Number.{operand_checks, difference_of}
 use Rattle.residues.proofs.NumberLaws.{Operands, two-pass, refused-is, accepted-is}
 use Rattle.residues.proofs.Number.difference.Goals as goal
@@ -13,15 +13,16 @@ use Rattle.residues.proofs.Number.difference.Reads as reads
 use Rattle.residues.proofs.Number.difference.Tie as tie
 
 -- where the check has passed
-passed : (b : step.Past-After-enum_told tie.the-claims reads.Pre reads.Post) → let a = b.args in judge (operand_checks a.self.p (a.self.value ∷ a.other ∷ [])) ≡ Pass
-passed b = sym b.check_operands.ensures ∙ b.in_default.is
+passed : (b : step.Past-After-known_told tie.the-claims reads.Pre reads.Post tie.handed_clauses) → let a = b.args in judge (operand_checks a.self.p (a.self.value ∷ a.other ∷ [])) ≡ Pass
+passed b = told-pass b.check_operands.ensures b.in_ok-check_operands.was
 
-facts : (b : step.Past-After-enum_told tie.the-claims reads.Pre reads.Post) → let a = b.args in Operands a.self.p a.self.value a.other
+facts : (b : step.Past-After-known_told tie.the-claims reads.Pre reads.Post tie.handed_clauses) → let a = b.args in Operands a.self.p a.self.value a.other
 facts b = two-pass _ _ _ (passed b)
 
-pub returns-in-Refuse : goal.returns-in-Refuse
+pub returns-in_err-check_operands : goal.returns-in_err-check_operands
 unfolding difference_of
-returns-in-Refuse c = refused-is _ _ (sym c.check_operands.ensures ∙ c.in-Refuse.is)
+returns-in_err-check_operands c =
+    rw (handed-up c.from_residual.ensures.1) (refused-is _ _ (told-refuse c.check_operands.ensures c.in_err-check_operands.was))
 
 pub overflow_sub-result : goal.overflow_sub-result
 overflow_sub-result c = let o = facts c in omega arith

@@ -1,13 +1,12 @@
 -- `residues::Number::inverse` meets its contract.
 -- Assumes nothing.
-use mathlib.Core.Path.{◌≡◌, ◌∙◌, sym}
+use mathlib.Core.Path.{◌≡◌, ◌∙◌}
 use mathlib.Core.List.{[], ◌∷◌}
 use Prim.Native.Nat.{◌<◌}
 use native.Mathlib.Omega.{arith}
 use borrow.Author.Tests.{eq-eqb, ne_eqb}
-use Rattle.numbers.specs.Refusals.{judge}
-use Rattle.numbers.specs.declared.refusal.Verdict.TheVariants.{Pass}
-use Rattle.numbers.proofs.RefusalsLaws.{Modulus, after-pass, after-refuse, take-check, skip-check, none-judged}
+use Rattle.numbers.specs.Refusals.{judge, Pass}
+use Rattle.numbers.proofs.RefusalsLaws.{Modulus, after-pass, after-refuse, take-check, skip-check, none-judged, told-pass, told-refuse, handed-up}
 use Rattle.residues.specs.Number.{operand_checks, inverse_number}
 use Rattle.residues.proofs.NumberLaws.{operands-pass, refused-is, accepted-is}
 use Rattle.residues.proofs.Number.inverse.Goals as goal
@@ -16,17 +15,17 @@ use Rattle.residues.proofs.Number.inverse.Reads as reads
 use Rattle.residues.proofs.Number.inverse.Tie as tie
 
 -- where checks 1, 2 and 6 have passed
-passed : (b : step.Past-After-enum_told tie.the-claims reads.Pre reads.Post) → let a = b.args in judge (operand_checks a.self.p (a.self.value ∷ [])) ≡ Pass
-passed b = sym b.check_operands.ensures ∙ b.in_default.is
+passed : (b : step.Past-After-known_told tie.the-claims reads.Pre reads.Post tie.handed_clauses) → let a = b.args in judge (operand_checks a.self.p (a.self.value ∷ [])) ≡ Pass
+passed b = told-pass b.check_operands.ensures b.in_ok-check_operands.was
 
-facts : (b : step.Past-After-enum_told tie.the-claims reads.Pre reads.Post) → let a = b.args in Modulus a.self.p × (a.self.value < a.self.p)
+facts : (b : step.Past-After-known_told tie.the-claims reads.Pre reads.Post tie.handed_clauses) → let a = b.args in Modulus a.self.p × (a.self.value < a.self.p)
 facts b = let o = operands-pass _ _ (passed b) in (o.0, o.1 0 (omega arith))
 
-pub returns-in-Refuse : goal.returns-in-Refuse
+pub returns-in_err-check_operands : goal.returns-in_err-check_operands
 unfolding inverse_number
-returns-in-Refuse c =
+returns-in_err-check_operands c =
     let a = c.args in
-    refused-is _ _ (after-refuse (operand_checks a.self.p (a.self.value ∷ [])) _ _ (sym c.check_operands.ensures ∙ c.in-Refuse.is))
+    rw (handed-up c.from_residual.ensures.1) (refused-is _ _ (after-refuse (operand_checks a.self.p (a.self.value ∷ [])) _ _ (told-refuse c.check_operands.ensures c.in_err-check_operands.was)))
 
 pub returns-then-value-eq0 : goal.returns-then-value-eq0
 unfolding inverse_number

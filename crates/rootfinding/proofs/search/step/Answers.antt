@@ -10,5 +10,5 @@ use Rattle.rootfinding.proofs.search.step.Goals as goal
 pub bounds-sizes-o-3 : goal.bounds-sizes-o-3
 bounds-sizes-o-3 c =
     let a = c.args in
-    let few = within _ (a.o + word a.sizes.now a.o - a.o) (drop a.o a.roots.now) c.part-m.ensures in
+    let few = within _ (a.o + word a.sizes.now a.o - a.o) (drop a.o a.roots.now) c.in-Some.ensures in
     simp length-set (omega arith)

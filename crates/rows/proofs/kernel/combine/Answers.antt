@@ -2,7 +2,6 @@
 -- Assumes nothing.
 use mathlib.Core.Path.{◌≡◌, ap, ◌∙◌}
 use Prim.Native.Nat.{ℕ, ◌%◌}
-use native.Mathlib.Nat.{mod-lt}
 use native.Mathlib.Omega.{arith}
 use Rattle.numbers.specs.Words.{tabulate}
 use Rattle.numbers.proofs.WordsLaws.{writing-none, writing-next}
@@ -12,21 +11,13 @@ use Rattle.rows.proofs.kernel.combine.Goals as goal
 
 pub loop-t-init : goal.loop-t-init
 unfolding tabulate
-loop-t-init c = (omega arith, writing-none _)
-
-pub weighted_sum-sum-requires : goal.weighted_sum-sum-requires
-weighted_sum-sum-requires c =
-    let h = c.requires in
-    (omega arith, omega arith, omega arith, omega arith, λ k l. omega (arith, h.6 k l), λ k l. omega (arith, h.7 k l))
-
-pub overflow_cast-out : goal.overflow_cast-out
-overflow_cast-out c = omega (arith, mod-lt c.weighted_sum-sum.result {m = c.args.p} (omega arith))
+loop-t-init c = writing-none _
 
 pub loop-t-preserved : goal.loop-t-preserved
-loop-t-preserved c = (omega arith, writing-next _ _ _ _ _ c.loop-t.invariant.1 (ap (λ (x : ℕ). x % c.args.p) c.weighted_sum-sum.ensures) (omega arith))
+loop-t-preserved c = writing-next _ _ _ _ _ c.loop-t.invariant (ap (λ (x : ℕ). x % c.args.p) c.weighted_sum-sum.ensures) (omega arith)
 
 pub returns : goal.returns
 returns c =
     let a = c.args in
     let e : c.loop-t.t ≡ a.n = omega arith in
-    writing-whole _ _ _ _ c.loop-t.invariant.1 (omega arith) ∙ ap (λ (k : ℕ). tabulate k (λ t. weight_sum a.f.now a.n a.weights.now t % a.p)) e
+    writing-whole _ _ _ _ c.loop-t.invariant (omega arith) ∙ ap (λ (k : ℕ). tabulate k (λ t. weight_sum a.f.now a.n a.weights.now t % a.p)) e

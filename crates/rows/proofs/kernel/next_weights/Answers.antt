@@ -2,8 +2,7 @@
 -- Assumes nothing.
 use mathlib.Core.Path.{◌≡◌, sym, ap, ◌∙◌}
 use mathlib.Core.List.{List}
-use Prim.Native.Nat.{ℕ, ◌≤◌, ◌-◌, ◌+◌, ◌*◌}
-use native.Mathlib.Nat.{mod-lt, mul-le-mul}
+use Prim.Native.Nat.{ℕ, ◌-◌, ◌+◌}
 use native.Mathlib.Omega.{arith}
 use lib.ListN.{length, set, length-set}
 use Rattle.numbers.specs.Words.{tabulate, word}
@@ -17,66 +16,24 @@ loop-i-init c =
     let a = c.args in
     let w = a.weights.now in
     let s = before (set w 0 0) (word w 0) in (
-      omega arith,
-      omega (arith, length-set w 0 0),
       writing-first (next_weight a.p a.c (word s)) w 0 (omega arith) (next-first a.p a.c (word s)),
       ap (λ (l : List ℕ). word l 0) (sym (before-is w 0)),
-      omega (arith, c.slice_known-1.given 0),
     )
-
-pub offset_bounds-weights-i : goal.offset_bounds-weights-i
-offset_bounds-weights-i c = record { fits = omega (arith, length-set c.args.weights.now 0 0) }
-
-pub offset_bounds-weights-i-in-loop-i : goal.offset_bounds-weights-i-in-loop-i
-offset_bounds-weights-i-in-loop-i c = record { fits = omega (arith, length-set c.args.weights.now 0 0) }
-
-pub overflow_cast-weights-in-loop-i : goal.overflow_cast-weights-in-loop-i
-overflow_cast-weights-in-loop-i c = omega (arith, c.slice_known-in-loop-i-2-1.given (c.loop-i.i - 1))
-
-pub overflow_mul-weights : goal.overflow_mul-weights
-overflow_mul-weights c =
-    let l = c.loop-i in
-    let m : c.args.c * word l.weights (l.i - 1) ≤ 16777215 * 4294967295 = mul-le-mul {n₂ = 16777215} {m₂ = 4294967295} (omega arith) (omega (arith, c.slice_known-in-loop-i-2-1.given (l.i - 1))) in
-    record { fits = omega arith }
-
-pub overflow_add-weights : goal.overflow_add-weights
-overflow_add-weights c =
-    let l = c.loop-i in
-    let m : c.args.c * word l.weights (l.i - 1) ≤ 16777215 * 4294967295 = mul-le-mul {n₂ = 16777215} {m₂ = 4294967295} (omega arith) (omega (arith, c.slice_known-in-loop-i-2-1.given (l.i - 1))) in
-    record { fits = omega arith }
-
-pub overflow_cast-weights-in-loop-i-4 : goal.overflow_cast-weights-in-loop-i-4
-overflow_cast-weights-in-loop-i-4 c =
-    let l = c.loop-i in
-    let a = c.args in
-    omega (arith, mod-lt (a.c * word l.weights (l.i - 1) + l.before) {m = a.p} (omega arith))
-
-pub offset_bounds-weights-i-in-loop-i-2 : goal.offset_bounds-weights-i-in-loop-i-2
-offset_bounds-weights-i-in-loop-i-2 c = record { fits = omega (arith, length-set c.args.weights.now 0 0) }
-
-pub overflow_add-i : goal.overflow_add-i
-overflow_add-i c = record { fits = omega (arith, length-set c.args.weights.now 0 0) }
 
 pub loop-i-preserved : goal.loop-i-preserved
 loop-i-preserved c =
     let l = c.loop-i in
     let a = c.args in
     let i = l.i in
-    let v = next-turn a.p a.c _ i _ _ (omega arith) (writing-word _ _ _ _ (i - 1) l.invariant.2 (omega arith)) l.invariant.3 in (
-      omega arith,
-      omega arith,
-      writing-next _ _ _ _ _ l.invariant.2 v (omega arith),
-      writing-past _ _ _ i l.invariant.2 (omega (arith, length-tabulate i (next_weight a.p a.c (word (before (set a.weights.now 0 0) (word a.weights.now 0)))))) ∙ before-word (set a.weights.now 0 0) (word a.weights.now 0) i (omega arith) ∙ ap (word (before (set a.weights.now 0 0) (word a.weights.now 0))) (let e : i ≡ i + 1 - 1 = omega arith in e),
-      omega (arith, c.slice_known-in-loop-i-1.given i),
+    let v = next-turn a.p a.c _ i _ _ (omega arith) (writing-word _ _ _ _ (i - 1) l.invariant.0 (omega arith)) l.invariant.1 in (
+      writing-next _ _ _ _ _ l.invariant.0 v (omega arith),
+      writing-past _ _ _ i l.invariant.0 (omega (arith, length-tabulate i (next_weight a.p a.c (word (before (set a.weights.now 0 0) (word a.weights.now 0)))))) ∙ before-word (set a.weights.now 0 0) (word a.weights.now 0) i (omega arith) ∙ ap (word (before (set a.weights.now 0 0) (word a.weights.now 0))) (let e : i ≡ i + 1 - 1 = omega arith in e),
     )
-
-pub shape_of-weights : goal.shape_of-weights
-shape_of-weights c = c.loop-i.invariant.2.long ∙ length-set c.args.weights.now 0 0
 
 pub returns : goal.returns
 returns c =
     let a = c.args in
     let w = a.weights.now in
     let e : c.loop-i.i ≡ length w = omega (arith, length-set w 0 0) in
-    writing-whole _ _ _ _ c.loop-i.invariant.2 (omega (arith, length-set w 0 0)) ∙ ap (λ (n : ℕ). tabulate n (next_weight a.p a.c (word (before (set w 0 0) (word w 0))))) e
+    writing-whole _ _ _ _ c.loop-i.invariant.0 (omega (arith, length-set w 0 0)) ∙ ap (λ (n : ℕ). tabulate n (next_weight a.p a.c (word (before (set w 0 0) (word w 0))))) e
     ∙ ap (λ (l : List ℕ). tabulate (length w) (next_weight a.p a.c (word l))) (before-is w 0)

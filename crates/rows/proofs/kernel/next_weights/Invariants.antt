@@ -1,8 +1,7 @@
 -- `rows::kernel::next_weights` meets its contract. The loop's invariant: the weights before i are the new ones, the others the old.
 -- Assumes nothing.
 use mathlib.Core.Path.{◌≡◌}
-use Prim.Native.Nat.{◌≤◌, ◌<◌, ◌-◌}
-use lib.ListN.{length}
+use Prim.Native.Nat.{◌-◌}
 use Rattle.numbers.specs.Words.{tabulate, word}
 use Rattle.numbers.proofs.WordsLaws.{Writing}
 use Rattle.rows.specs.internal.Passes.{next_weight}
@@ -10,7 +9,4 @@ use Rattle.rows.proofs.RowsLaws.{before}
 use Rattle.rows.proofs.kernel.next_weights.Given as goal
 
 abbrev pub invariant-loop-i : goal.invariant-loop-i
-invariant-loop-i l = (1 ≤ l.i) × (l.i ≤ length l.initial.weights) × Writing (tabulate l.i (next_weight l.p l.c (word (before l.initial.weights l.initial.before)))) l.initial.weights l.weights × (l.before ≡ word (before l.initial.weights l.initial.before) (l.i - 1)) × (l.before < 4294967296)
-
-abbrev pub decreases-loop-i : goal.decreases-loop-i
-decreases-loop-i l = length l.initial.weights - l.i
+invariant-loop-i l = Writing (tabulate l.i (next_weight l.p l.c (word (before l.initial.weights l.initial.before)))) l.initial.weights l.weights × (l.before ≡ word (before l.initial.weights l.initial.before) (l.i - 1))

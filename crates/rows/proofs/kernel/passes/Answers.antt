@@ -7,7 +7,7 @@ use Rattle.algebra.specs.Sums.{sum_to}
 use Rattle.numbers.specs.internal.Limits.{modulus_bound}
 use Rattle.numbers.proofs.WordsLaws.{from-below}
 use Rattle.rows.specs.Rows.{rows_of}
-use Rattle.rows.proofs.RowsLaws.{pass_term, PassAt, pass-at, far, far-words, pass-none, pass_all, pass-next, pass_fits, row-dot}
+use Rattle.rows.proofs.RowsLaws.{pass_term, PassAt, pass-at, pass-none, pass_all, pass-next, pass_fits, row-dot}
 use Rattle.rows.proofs.kernel.passes.Goals as goal
 use Rattle.rows.proofs.kernel.passes.Lts as step
 use Rattle.rows.proofs.kernel.passes.Reads as reads
@@ -39,40 +39,7 @@ told b =
 pub loop-i-init : goal.loop-i-init
 loop-i-init c =
     let a = c.args in
-    (omega arith, omega arith, sym (ap (λ (k : ℕ). sum_to k (pass_term (rows_of a.f.now a.n a.frows) (rows_of a.g.now a.n a.grows) a.j a.skip a.count)) c.first_row-i.ensures ∙ pass-none a.f.now a.frows a.g.now a.grows a.n a.j a.skip a.count))
-
-pub overflow_mul-a : goal.overflow_mul-a
-overflow_mul-a c = record { fits = far (at_f c.before).row }
-
-pub overflow_add-a : goal.overflow_add-a
-overflow_add-a c = record { fits = far (at_f c.before).place }
-
-pub overflow_sub-b : goal.overflow_sub-b
-overflow_sub-b c = (both c.before).0
-
-pub overflow_mul-b : goal.overflow_mul-b
-overflow_mul-b c = record { fits = far (at_g c.before).row }
-
-pub overflow_add-b : goal.overflow_add-b
-overflow_add-b c = record { fits = far (at_g c.before).place }
-
-pub offset_bounds-f-a : goal.offset_bounds-f-a
-offset_bounds-f-a c = record { fits = far-words (at_f c.before).place }
-
-pub slice_bounds-dot-count : goal.slice_bounds-dot-count
-slice_bounds-dot-count c = (at_f c.before).within
-
-pub slice_bounds-dot-start : goal.slice_bounds-dot-start
-slice_bounds-dot-start c = (at_f c.before).within
-
-pub offset_bounds-g-b : goal.offset_bounds-g-b
-offset_bounds-g-b c = record { fits = far-words (at_g c.before.before).place }
-
-pub slice_bounds-dot-count-in-loop-i : goal.slice_bounds-dot-count-in-loop-i
-slice_bounds-dot-count-in-loop-i c = (at_g c.before.before).within
-
-pub slice_bounds-dot-start-in-loop-i : goal.slice_bounds-dot-start-in-loop-i
-slice_bounds-dot-start-in-loop-i c = (at_g c.before.before).within
+    (omega arith, sym (ap (λ (k : ℕ). sum_to k (pass_term (rows_of a.f.now a.n a.frows) (rows_of a.g.now a.n a.grows) a.j a.skip a.count)) c.saturating_sub-first.ensures ∙ pass-none a.f.now a.frows a.g.now a.grows a.n a.j a.skip a.count))
 
 pub dot-sum-requires : goal.dot-sum-requires
 dot-sum-requires c =
@@ -85,15 +52,15 @@ overflow_add-sum c =
     let l = c.loop-i in
     let a = c.args in
     let h = c.requires in
-    record { fits = pass_fits a.f.now a.frows a.g.now a.grows a.n a.j a.skip a.count h.7 h.8 (omega arith) l.i (omega arith) l.invariant.2 (told c.before) }
+    record { fits = pass_fits a.f.now a.frows a.g.now a.grows a.n a.j a.skip a.count h.7 h.8 (omega arith) l.i (omega arith) l.invariant.1 (told c.before) }
 
 pub loop-i-preserved : goal.loop-i-preserved
 loop-i-preserved c =
     let l = c.loop-i in
     let a = c.args in
-    (omega arith, omega arith, pass-next a.f.now a.frows a.g.now a.grows a.n a.j a.skip a.count l.i l.invariant.2 (told c.before))
+    (omega arith, pass-next a.f.now a.frows a.g.now a.grows a.n a.j a.skip a.count l.i l.invariant.1 (told c.before))
 
 pub returns : goal.returns
 returns c =
     let a = c.args in
-    c.loop-i.invariant.2 ∙ pass_all a.f.now a.frows a.g.now a.grows a.n a.j a.skip a.count c.loop-i.i (omega arith) (omega arith)
+    c.loop-i.invariant.1 ∙ pass_all a.f.now a.frows a.g.now a.grows a.n a.j a.skip a.count c.loop-i.i (omega arith) (omega arith)

@@ -2,7 +2,6 @@
 -- Assumes nothing.
 use mathlib.Core.Path.{◌≡◌, ap, ◌∙◌}
 use Prim.Native.Nat.{ℕ, ◌%◌}
-use native.Mathlib.Nat.{mod-lt}
 use native.Mathlib.Omega.{arith}
 use Rattle.numbers.specs.Words.{tabulate}
 use Rattle.numbers.proofs.WordsLaws.{writing-none, writing-next}
@@ -12,23 +11,15 @@ use Rattle.rows.proofs.kernel.product_row.Goals as goal
 
 pub loop-t-init : goal.loop-t-init
 unfolding tabulate
-loop-t-init c = (omega arith, writing-none _)
-
-pub passes-sum-requires : goal.passes-sum-requires
-passes-sum-requires c =
-    let h = c.requires in
-    (h.2, h.3, omega arith, omega arith, omega arith, omega arith, omega arith, λ k l. omega (arith, h.9 k l), λ k l. omega (arith, h.10 k l))
-
-pub overflow_cast-out : goal.overflow_cast-out
-overflow_cast-out c = omega (arith, mod-lt c.passes-sum.result {m = c.args.p} (omega arith))
+loop-t-init c = writing-none _
 
 pub loop-t-preserved : goal.loop-t-preserved
 loop-t-preserved c =
     let v = ap (λ (x : ℕ). x % c.args.p) c.passes-sum.ensures ∙ pass-column _ _ _ _ _ in
-    (omega arith, writing-next _ _ _ _ _ c.loop-t.invariant.1 v (omega arith))
+    writing-next _ _ _ _ _ c.loop-t.invariant v (omega arith)
 
 pub returns : goal.returns
 returns c =
     let a = c.args in
     let e : c.loop-t.t ≡ a.n = omega arith in
-    writing-whole _ _ _ _ c.loop-t.invariant.1 (omega arith) ∙ ap (λ (k : ℕ). tabulate k (mul a.p (rows_of a.f.now a.n a.frows) (rows_of a.g.now a.n a.grows) a.j)) e
+    writing-whole _ _ _ _ c.loop-t.invariant (omega arith) ∙ ap (λ (k : ℕ). tabulate k (mul a.p (rows_of a.f.now a.n a.frows) (rows_of a.g.now a.n a.grows) a.j)) e

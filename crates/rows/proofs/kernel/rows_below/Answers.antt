@@ -17,33 +17,6 @@ use Rattle.rows.proofs.kernel.rows_below.Tie as tie
 inside : (b : step.In-loop tie.the-claims reads.Pre reads.Post goal.the-invariant-loop-j goal.the-decreases-loop-j) → let a = b.args in b.loop-j.j * a.n + a.n ≤ length a.s.now
 inside b = let a = b.args in omega (arith, row_fits b.loop-j.j a.rows a.n (omega arith))
 
-pub loop-j-init : goal.loop-j-init
-loop-j-init c = (omega arith, λ k l. absurd (let z : ⊥ = omega arith in z))
-
-pub overflow_mul-a : goal.overflow_mul-a
-overflow_mul-a c = let l = inside c.before in omega arith
-
-pub overflow_add-a : goal.overflow_add-a
-overflow_add-a c = let l = inside c.before in omega arith
-
-pub overflow_mul-e : goal.overflow_mul-e
-overflow_mul-e c = let l = inside c.before in omega arith
-
-pub overflow_add-e : goal.overflow_add-e
-overflow_add-e c = let l = inside c.before in omega arith
-
-pub offset_bounds-s-a : goal.offset_bounds-s-a
-offset_bounds-s-a c = let l = inside c.before in omega arith
-
-pub slice_bounds-first_large-count : goal.slice_bounds-first_large-count
-slice_bounds-first_large-count c = let l = inside c.before in omega arith
-
-pub slice_bounds-first_large-start : goal.slice_bounds-first_large-start
-slice_bounds-first_large-start c = let l = inside c.before in omega arith
-
-pub slice_bounds-first_large-end : goal.slice_bounds-first_large-end
-slice_bounds-first_large-end c = let l = inside c.before in omega arith
-
 pub returns-then-first_large-to : goal.returns-then-first_large-to
 returns-then-first_large-to c =
     let a = c.args in
@@ -54,13 +27,11 @@ pub loop-j-preserved : goal.loop-j-preserved
 loop-j-preserved c =
     let a = c.args in
     let i = c.loop-j in
-    let l = inside c.before.before.before.before in (
-      omega arith,
-      below_more (λ k. (t : ℕ) → a.from ≤ t → t < a.to → word a.s.now (k * a.n + t) < a.q) _ i.invariant.1
-          (columns-pass a.q a.s.now a.n i.j a.from a.to (omega arith) (omega arith) (rw c.first_large.ensures at c.if-first_large-to.false)),
-    )
+    let l = inside c.before.before.before.before in
+    below_more (λ k. (t : ℕ) → a.from ≤ t → t < a.to → word a.s.now (k * a.n + t) < a.q) _ i.invariant
+    (columns-pass a.q a.s.now a.n i.j a.from a.to (omega arith) (omega arith) (rw c.first_large.ensures at c.if-first_large-to.false))
 
 pub returns : goal.returns
 returns c =
     let a = c.args in
-    sym (at-rows_below a.q a.s.now a.n a.rows a.from a.to (λ j l. c.loop-j.invariant.1 j (omega arith)))
+    sym (at-rows_below a.q a.s.now a.n a.rows a.from a.to (λ j l. c.loop-j.invariant j (omega arith)))

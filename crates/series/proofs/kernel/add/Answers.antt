@@ -10,16 +10,13 @@ use Rattle.series.proofs.kernel.add.Goals as goal
 
 pub loop-t-init : goal.loop-t-init
 unfolding tabulate
-loop-t-init c = (omega arith, writing-none _)
-
-pub overflow_add-out : goal.overflow_add-out
-overflow_add-out c = omega (arith, c.requires.4 c.loop-t.t (omega arith), c.requires.5 c.loop-t.t (omega arith))
+loop-t-init c = writing-none _
 
 pub loop-t-preserved : goal.loop-t-preserved
-loop-t-preserved c = (omega arith, writing-next _ _ _ _ _ c.loop-t.invariant.1 refl (omega arith))
+loop-t-preserved c = writing-next _ _ _ _ _ c.loop-t.invariant refl (omega arith)
 
 pub returns : goal.returns
 returns c =
     let a = c.args in
     let n = length a.g.now in
-    writing-all _ n _ _ _ c.loop-t.invariant.1 (omega arith) ∙ ap (λ s. over s a.out.now) (sym (sums-whole a.p n a.g.now a.h.now))
+    writing-all _ n _ _ _ c.loop-t.invariant (omega arith) ∙ ap (λ s. over s a.out.now) (sym (sums-whole a.p n a.g.now a.h.now))

@@ -1,13 +1,9 @@
 -- `series::kernel::dot` meets its contract. The loop's invariant: the sum is that of the summands before i, each at most 16777215 * 16777215.
 -- Assumes nothing.
 use mathlib.Core.Path.{◌≡◌}
-use Prim.Native.Nat.{◌≤◌, ◌-◌}
 use Rattle.algebra.specs.Sums.{sum_to}
 use Rattle.series.proofs.SeriesLaws.{dot_term}
 use Rattle.series.proofs.kernel.dot.Given as goal
 
 abbrev pub invariant-loop-i : goal.invariant-loop-i
-invariant-loop-i l = (l.i ≤ l.k) × (l.sum ≡ sum_to l.i (dot_term l.g l.h l.k))
-
-abbrev pub decreases-loop-i : goal.decreases-loop-i
-decreases-loop-i l = l.k - l.i
+invariant-loop-i l = l.sum ≡ sum_to l.i (dot_term l.g l.h l.k)

@@ -1,21 +1,18 @@
--- `series::kernel::repeat` meets its contract. The loop's invariant: the words before i are written.
+-- `series::kernel::repeat` meets its contract.
 -- Assumes nothing.
-use mathlib.Core.Path.{refl, ◌∙◌}
-use native.Mathlib.Omega.{arith}
+use mathlib.Core.Path.{◌≡◌, refl, sym, ap, ◌∙◌}
+use mathlib.Core.List.{List, ◌∷◌}
+use Prim.Native.Nat.{ℕ, zero, suc}
+use lib.ListN.{replicate}
 use Rattle.numbers.specs.Words.{tabulate}
-use Rattle.numbers.proofs.WordsLaws.{length-tabulate, over-whole, writing-none, writing-next, writing-all}
+use Rattle.numbers.proofs.WordsLaws.{tabulate-front}
 use Rattle.series.proofs.kernel.repeat.Goals as goal
 
-pub loop-i-init : goal.loop-i-init
+-- one word, n times
+replicate-is : (n x : ℕ) → replicate n x ≡ tabulate n (λ _. x)
 unfolding tabulate
-loop-i-init c = (omega arith, refl, writing-none _)
-
-pub loop-i-preserved : goal.loop-i-preserved
-loop-i-preserved c =
-    let a = c.args in
-    let l = c.loop-i in
-    let w = writing-next l.i (λ _. a.x) _ _ _ l.invariant.2 refl (omega arith) in
-    (omega arith, w.long, w)
+replicate-is zero x = refl
+replicate-is (suc n) x = ap (λ (l : List ℕ). x ∷ l) (replicate-is n x) ∙ sym (tabulate-front n (λ _. x))
 
 pub returns : goal.returns
-returns c = writing-all _ _ _ _ _ c.loop-i.invariant.2 (omega arith) ∙ over-whole _ _ (length-tabulate _ _)
+returns c = c.fill.ensures.after (λ y e. e) ∙ replicate-is _ c.args.x

@@ -9,17 +9,11 @@ use Rattle.series.proofs.kernel.subtract.Goals as goal
 
 pub loop-t-init : goal.loop-t-init
 unfolding tabulate
-loop-t-init c = (omega arith, writing-none _)
-
-pub overflow_sub-out : goal.overflow_sub-out
-overflow_sub-out c = omega (arith, c.requires.5 c.loop-t.t (omega arith))
-
-pub overflow_add-out : goal.overflow_add-out
-overflow_add-out c = omega (arith, c.requires.4 c.loop-t.t (omega arith))
+loop-t-init c = writing-none _
 
 pub loop-t-preserved : goal.loop-t-preserved
-loop-t-preserved c = (omega arith, writing-next _ _ _ _ _ c.loop-t.invariant.1 refl (omega arith))
+loop-t-preserved c = writing-next _ _ _ _ _ c.loop-t.invariant refl (omega arith)
 
 pub returns : goal.returns
 unfolding differences
-returns c = writing-all _ _ _ _ _ c.loop-t.invariant.1 (omega arith)
+returns c = writing-all _ _ _ _ _ c.loop-t.invariant (omega arith)

@@ -1,22 +1,18 @@
--- `sheet::kernel::same_row` meets its contract. The loop's invariant: the words before t agree.
+-- `sheet::kernel::same_row` meets its contract.
 -- Assumes nothing.
-use mathlib.Core.Path.{◌≡◌, sym, ◌∙◌}
 use native.Mathlib.Omega.{arith}
-use borrow.Author.Count.{below_more}
+use mathlib.Core.Path.{◌≡◌, refl}
+use borrow.Author.Rules.{rules}
+use borrow.Author.Tests.{tests}
+use lib.ListN.{length}
+use Rattle.std.proofs.lemmas.Iterator.{cases_from_all, YieldsList-from_range}
 use Rattle.numbers.specs.Words.{word, up_to}
-use Rattle.numbers.proofs.TestsLaws.{decides-yes, decides-no}
+use Rattle.front.proofs.EachLaws.{decides_each}
 use Rattle.sheet.proofs.kernel.same_row.Goals as goal
 
-pub loop-t-init : goal.loop-t-init
-loop-t-init c = (omega arith, λ k l. absurd (let z : ⊥ = omega arith in z))
-
-pub returns-then-stored-t : goal.returns-then-stored-t
-returns-then-stored-t c = decides-no (λ h. c.if-stored-t.true (h c.loop-t.t (omega arith) ∙ sym c.cut_word.ensures))
-
-pub loop-t-preserved : goal.loop-t-preserved
-loop-t-preserved c =
-    let a = c.args in
-    (omega arith, below_more (λ l. word a.stored.now l ≡ up_to a.k (word a.computed.now) l) _ c.loop-t.invariant.1 (c.if-stored-t.false ∙ c.cut_word.ensures))
-
 pub returns : goal.returns
-returns c = decides-yes (λ i l. c.loop-t.invariant.1 i (omega arith))
+returns c =
+    let s = c.args.stored.now in
+    let f = up_to c.args.k (word c.args.computed.now) in
+    let d = decides_each 0 (length s) (λ t. word s t ≡ f t) _ (cases_from_all _ _ _ (λ t. word s t ≡ f t) (λ t. word s t ≡ f t → ⊥) c.all.ensures.ran (YieldsList-from_range 0 (length s) _ refl refl) (λ x q k. (search rules, grind (arith, tests))) (λ x q k. grind (arith, tests))) in
+    record { yes = λ e t l. d.yes e t (omega arith) l; no = λ e h. d.no e (λ t _ l. h t l) }

@@ -2,8 +2,7 @@
 -- Assumes nothing.
 use mathlib.Core.Path.{◌∙◌, sym, ap}
 use native.Mathlib.Omega.{arith}
-use Rattle.numbers.specs.Refusals.{refusal}
-use Rattle.numbers.specs.declared.refusal.Verdict.TheVariants.{Refuse}
+use Rattle.numbers.specs.Refusals.{refusal, Refuse}
 use Rattle.layout.proofs.PlacesLaws.{placed-entries}
 use Rattle.sheet.proofs.ReadingLaws.{sound-placed}
 use Rattle.simple.proofs.SimpleLaws.{multiple-there, multiple-none}
@@ -19,7 +18,7 @@ root_at-requires c =
     (omega (arith, h.count-high), h.degree-high, omega (arith, placed-entries _ h))
 
 pub returns-then-i-h : goal.returns-then-i-h
-returns-then-i-h c = c.refuse.ensures ∙ ap (λ x. Refuse (refusal 22 x)) c.root_at.ensures ∙ sym (multiple-there c.args.sheet.now _ c.first_multiple-i.ensures (omega (arith, c.read_header-h.ensures.count-is)))
+returns-then-i-h c = ap (λ x. Refuse (refusal 22 x)) c.root_at.ensures ∙ sym (multiple-there c.args.sheet.now _ c.first_multiple-i.ensures (omega (arith, c.read_header-h.ensures.count-is)))
 
 pub returns : goal.returns
 returns c = sym (multiple-none c.args.sheet.now _ c.first_multiple-i.ensures (omega (arith, c.read_header-h.ensures.count-is)))

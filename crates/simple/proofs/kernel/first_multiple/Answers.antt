@@ -1,40 +1,32 @@
--- `simple::kernel::first_multiple` meets its contract. The invariant: the powers before i are 1.
+-- `simple::kernel::first_multiple` meets its contract.
 -- Assumes nothing.
-use Prim.Native.Nat.{◌≤◌}
-use native.Mathlib.Omega.{arith}
-use borrow.Author.Count.{below_more}
-use Rattle.layout.specs.Layout.{power}
+use Rattle.std.proofs.Common.{◌≡◌, ◌∙◌, ℕ, ◌<◌, ◌≤◌, List, Option, Some, None, MatchOption, unwrap_or, arith, rules, tests}
+use Rattle.std.proofs.lemmas.Iterator.{first_from_Range, serves_from_Range}
+use Rattle.layout.specs.Layout.{count, power}
 use Rattle.layout.proofs.PlacesLaws.{placed-entries}
 use Rattle.sheet.proofs.ReadingLaws.{sound-placed}
+use Rattle.simple.specs.Simple.{first_multiple}
 use Rattle.simple.proofs.SimpleLaws.{multiple-is}
 use Rattle.simple.proofs.kernel.first_multiple.Goals as goal
 
-pub read_header-h-requires : goal.read_header-h-requires
-read_header-h-requires c = omega (arith, placed-entries _ (sound-placed _ c.requires))
+pub find-requires : goal.find-requires
+find-requires c = record {
+  can = tt;
+  finite = tt;
+  callable = serves_from_Range (λ x q k. search (rules, tests)) (λ x low high y at _ _ _ _ _ _ _ _.
+      let h = sound-placed _ c.requires in
+      let e = c.read_header-h.ensures.count-is in
+      (omega (arith, h.count-high), h.degree-high, omega (arith, placed-entries _ h)));
+}
 
-pub loop-i-init : goal.loop-i-init
-loop-i-init c = (omega arith, λ k l. absurd (let z : ⊥ = omega arith in z))
-
-pub power_at-requires : goal.power_at-requires
-power_at-requires c =
-    let h = sound-placed _ c.requires in
-    let e = c.read_header-h.ensures.count-is in
-    (omega (arith, h.count-high), h.degree-high, omega (arith, placed-entries _ h))
-
-pub returns-then-power_at-gt1 : goal.returns-then-power_at-gt1
-returns-then-power_at-gt1 c =
-    let l = c.loop-i in
-    multiple-is c.args.sheet.now l.i l.invariant.0 l.invariant.1 (λ _. omega (arith, c.power_at.ensures))
-
-pub loop-i-smaller : goal.loop-i-smaller
-loop-i-smaller c = let e = c.read_header-h.ensures.count-is in omega arith
-
-pub loop-i-preserved : goal.loop-i-preserved
-loop-i-preserved c =
-    let e = c.read_header-h.ensures.count-is in
-    (omega arith, below_more (λ k. power c.args.sheet.now k ≤ 1) _ c.loop-i.invariant.1 (omega (arith, c.power_at.ensures)))
+found : (s : List ℕ) (n : ℕ) → n ≡ count s → (o : Option ℕ)
+    → MatchOption o ((k : ℕ) → 0 ≤ k → k < n → power s k ≤ 1) (λ i. (0 ≤ i) × (i < n) × (1 < power s i) × ((k : ℕ) → 0 ≤ k → k < i → power s k ≤ 1))
+    → unwrap_or o n ≡ first_multiple s
+found s n e None h = multiple-is s n (omega arith) (λ k l. h k (omega arith) l) (λ l. absurd (let z : ⊥ = omega arith in z))
+found s n e (Some i) h = multiple-is s i (omega (arith, h.1)) (λ k l. h.3 k (omega arith) l) (λ l. h.2)
 
 pub returns : goal.returns
 returns c =
+    let s = c.args.sheet.now in
     let e = c.read_header-h.ensures.count-is in
-    multiple-is c.args.sheet.now _ c.loop-i.invariant.0 c.loop-i.invariant.1 (λ h. absurd (let z : ⊥ = omega arith in z))
+    c.unwrap_or.ensures ∙ found s c.read_header-h.result.count e c.find.result (first_from_Range _ _ _ _ (λ i. 1 < power s i) (λ i. power s i ≤ 1) c.find.ensures.ran (λ x q k. grind (arith, tests)) (λ x q k. (search rules, grind (arith, tests))))

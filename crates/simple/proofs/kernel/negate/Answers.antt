@@ -9,13 +9,10 @@ use Rattle.simple.proofs.kernel.negate.Goals as goal
 
 pub loop-i-init : goal.loop-i-init
 unfolding tabulate
-loop-i-init c = (omega arith, writing-none _)
-
-pub overflow_sub-out : goal.overflow_sub-out
-overflow_sub-out c = let z = c.requires.1 c.loop-i.i (omega arith) in omega arith
+loop-i-init c = writing-none _
 
 pub loop-i-preserved : goal.loop-i-preserved
-loop-i-preserved c = let l = c.loop-i in (omega arith, writing-next l.i _ _ _ _ l.invariant.1 refl (omega arith))
+loop-i-preserved c = let l = c.loop-i in writing-next l.i _ _ _ _ l.invariant refl (omega arith)
 
 pub returns : goal.returns
-returns c = writing-all _ (length c.args.words.now) _ _ _ c.loop-i.invariant.1 (omega arith) ∙ over-whole _ _ (length-tabulate _ _ ∙ omega arith)
+returns c = writing-all _ (length c.args.words.now) _ _ _ c.loop-i.invariant (omega arith) ∙ over-whole _ _ (length-tabulate _ _ ∙ omega arith)

@@ -1,11 +1,7 @@
 -- `tiles::tile::put_column` meets its contract. The invariant: the first i lanes are put.
 -- Assumes nothing.
-use Prim.Native.Nat.{◌≤◌, ◌-◌}
 use Rattle.tiles.proofs.TileLaws.{Putting}
 use Rattle.tiles.proofs.tile.put_column.Given as goal
 
 abbrev pub invariant-loop-i : goal.invariant-loop-i
-invariant-loop-i l = (l.i ≤ l.lanes) × Putting l.width l.t l.column l.initial.tiles l.tiles l.i
-
-abbrev pub decreases-loop-i : goal.decreases-loop-i
-decreases-loop-i l = l.lanes - l.i
+invariant-loop-i l = Putting l.width l.t l.column l.initial.tiles l.tiles l.i

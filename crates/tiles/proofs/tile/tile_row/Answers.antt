@@ -10,19 +10,7 @@ use Rattle.tiles.proofs.TileLaws.{step_start, block-below, row_next}
 use Rattle.tiles.proofs.tile.tile_row.Goals as goal
 
 pub loop-b-init : goal.loop-b-init
-loop-b-init c = (omega arith, step_start _ _)
-
-pub overflow_mul-k : goal.overflow_mul-k
-overflow_mul-k c = let a = c.args in omega (arith, row_fits c.loop-b.b a.blocks (8 * a.width) (omega arith))
-
-pub offset_bounds-tiles-k : goal.offset_bounds-tiles-k
-offset_bounds-tiles-k c = let a = c.args in omega (arith, row_fits c.loop-b.b a.blocks (8 * a.width) (omega arith))
-
-pub slice_bounds-tile-count : goal.slice_bounds-tile-count
-slice_bounds-tile-count c = let a = c.args in omega (arith, row_fits c.loop-b.b a.blocks (8 * a.width) (omega arith))
-
-pub slice_bounds-tile-start : goal.slice_bounds-tile-start
-slice_bounds-tile-start c = let a = c.args in omega (arith, row_fits c.loop-b.b a.blocks (8 * a.width) (omega arith))
+loop-b-init c = step_start _ _
 
 pub tile-requires : goal.tile-requires
 tile-requires c =
@@ -31,7 +19,7 @@ tile-requires c =
     let l = c.loop-b in
     let n = length_from a.tiles.now (l.b * (8 * a.width)) in
     let room = row_fits l.b a.blocks (8 * a.width) (omega arith) in
-    let w = l.invariant.1 in (
+    let w = l.invariant in (
       r.0,
       r.2,
       r.5,
@@ -46,10 +34,10 @@ pub loop-b-preserved : goal.loop-b-preserved
 loop-b-preserved c =
     let a = c.args in
     let l = c.loop-b in
-    (omega arith, row_next a.t a.width l.b a.y.now a.tiles.now a.a.now l.a _ l.invariant.1 (omega arith) c.tile.ensures)
+    row_next a.t a.width l.b a.y.now a.tiles.now a.a.now l.a _ l.invariant (omega arith) c.tile.ensures
 
 pub returns : goal.returns
 returns c =
     let a = c.args in
     let l = c.loop-b in
-    writing-all (8 * l.b) (8 * a.blocks) _ _ _ l.invariant.1 (omega arith) ∙ over-whole _ _ (length-tabulate (8 * a.blocks) _ ∙ sym c.requires.7)
+    writing-all (8 * l.b) (8 * a.blocks) _ _ _ l.invariant (omega arith) ∙ over-whole _ _ (length-tabulate (8 * a.blocks) _ ∙ sym c.requires.7)

@@ -1,7 +1,6 @@
 -- `tiles::tile::tile_step` meets its contract.
 -- Assumes nothing.
 use mathlib.Core.Path.{◌≡◌}
-use Prim.Native.Nat.{◌≤◌, ◌-◌}
 use lib.ListN.{length}
 use Rattle.numbers.specs.Words.{tabulate}
 use Rattle.numbers.proofs.WordsLaws.{Writing}
@@ -9,7 +8,4 @@ use Rattle.tiles.specs.internal.Tile.{tile_step}
 use Rattle.tiles.proofs.tile.tile_step.Given as goal
 
 abbrev pub invariant-loop-l : goal.invariant-loop-l
-invariant-loop-l l = (l.l ≤ 8) × (length l.a ≡ 8) × Writing (tabulate l.l (tile_step l.x l.w l.initial.a)) l.initial.a l.a
-
-abbrev pub decreases-loop-l : goal.decreases-loop-l
-decreases-loop-l l = 8 - l.l
+invariant-loop-l l = (length l.a ≡ 8) × Writing (tabulate l.l (tile_step l.x l.w l.initial.a)) l.initial.a l.a

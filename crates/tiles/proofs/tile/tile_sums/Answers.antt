@@ -1,9 +1,9 @@
 -- `tiles::tile::tile_sums` meets its contract. The invariant: a has the sums of the first s − 1 steps.
 -- Assumes nothing.
-use mathlib.Core.Path.{refl, sym, ◌∙◌}
+use mathlib.Core.Path.{refl}
 use Prim.Native.Nat.{◌+◌, ◌-◌}
 use native.Mathlib.Omega.{arith}
-use Rattle.tiles.proofs.TileLaws.{sum-none, sum_step, sum-count, sums-long, sums-ready}
+use Rattle.tiles.proofs.TileLaws.{sum-none, sum_step, sum-count, sums-ready}
 use Rattle.tiles.proofs.tile.tile_sums.Goals as goal
 
 pub loop-s-init : goal.loop-s-init
@@ -36,21 +36,9 @@ tile_add-requires-then-s-t c =
     let a = c.args in
     sums-ready a.t (l.s - 1) l.s a.y.now a.w.now a.a.now l.a c.requires (omega arith) (omega arith) l.invariant.2
 
-pub shape_of-a-then-s-t : goal.shape_of-a-then-s-t
-shape_of-a-then-s-t c = sums-long _ _ c.tile_add-then-s-t.ensures ∙ sym c.requires.4
-
 pub returns-then-s-t : goal.returns-then-s-t
 returns-then-s-t c =
     let l = c.loop-s in
     let a = c.args in
     let one = sum_step a.t (l.s - 1) l.s a.y.now a.w.now a.a.now l.a _ (omega arith) l.invariant.2 c.tile_add-then-s-t.ensures in
     sum-count a.t l.s (a.t - 1) a.y.now a.w.now a.a.now _ (omega arith) one
-
-pub shape_of-a-else-s-t : goal.shape_of-a-else-s-t
-shape_of-a-else-s-t c = sums-long _ _ c.loop-s.invariant.2 ∙ sym c.requires.4
-
-pub returns-else-s-t : goal.returns-else-s-t
-returns-else-s-t c =
-    let l = c.loop-s in
-    let a = c.args in
-    sum-count a.t (l.s - 1) (a.t - 1) a.y.now a.w.now a.a.now l.a (omega arith) l.invariant.2

@@ -1,17 +1,12 @@
--- `tiles::weights::clear_sums` meets its contract. The invariant: the first i words are 0.
+-- `tiles::weights::clear_sums` meets its contract.
 -- Assumes nothing.
-use mathlib.Core.Path.{refl}
+use mathlib.Core.Path.{refl, sym, ◌∙◌}
 use native.Mathlib.Omega.{arith}
-use Rattle.numbers.proofs.WordsLaws.{writing-next}
-use Rattle.tiles.proofs.TileLaws.{step_start}
-use Rattle.tiles.proofs.WeightsLaws.{written}
+use Rattle.numbers.proofs.WordsLaws.{length-tabulate, word-tabulate}
+use lib.Seq.{ext_get_or}
 use Rattle.tiles.proofs.weights.clear_sums.Goals as goal
 
-pub loop-i-init : goal.loop-i-init
-loop-i-init c = (omega arith, step_start _ _)
-
-pub loop-i-preserved : goal.loop-i-preserved
-loop-i-preserved c = let l = c.loop-i in (omega arith, writing-next l.i _ _ _ _ l.invariant.1 refl (omega arith))
-
 pub returns : goal.returns
-returns c = written c.loop-i.i _ _ _ _ c.loop-i.invariant.1 (omega arith) refl
+returns c =
+    let h = c.fill.ensures in
+    ext_get_or 0 c.fill.new.self _ (h.len ∙ sym (length-tabulate _ _)) (λ k l. h.clones k 0 (omega arith) refl ∙ sym (word-tabulate _ (λ _. 0) k (omega arith)))

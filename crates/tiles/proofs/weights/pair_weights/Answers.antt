@@ -2,28 +2,18 @@
 -- Assumes nothing.
 use Prim.Native.Nat.{◌+◌, ◌*◌}
 use native.Mathlib.Omega.{arith}
-use lib.ListN.{length-set}
 use borrow.Author.Rules.{rules}
 use Rattle.tiles.proofs.WeightsLaws.{pairs_start, pairs_next, written}
 use Rattle.tiles.proofs.weights.pair_weights.Goals as goal
 
-pub bounds-pairs-1 : goal.bounds-pairs-1
-bounds-pairs-1 c = simp length-set (omega arith)
-
 pub loop-s-init : goal.loop-s-init
-loop-s-init c = (omega arith, search rules, pairs_start _ c.args.pairs.now (omega arith))
-
-pub overflow_cast-x : goal.overflow_cast-x
-overflow_cast-x c = omega (arith, c.shared_slice_known-1.given c.loop-s.s)
-
-pub bounds-pairs-k-in-loop-s : goal.bounds-pairs-k-in-loop-s
-bounds-pairs-k-in-loop-s c = simp length-set (omega arith)
+loop-s-init c = (search rules, pairs_start _ c.args.pairs.now (omega arith))
 
 pub loop-s-preserved : goal.loop-s-preserved
 loop-s-preserved c =
     let l = c.loop-s in
-    let w = pairs_next c.args.weights.now _ l.pairs l.s (omega arith) l.invariant.2 in
-    (omega arith, search rules, w)
+    let w = pairs_next c.args.weights.now _ l.pairs l.s (omega arith) l.invariant.1 in
+    (search rules, w)
 
 pub returns : goal.returns
-returns c = written (2 * c.loop-s.s + 2) _ _ _ _ c.loop-s.invariant.2 (omega arith) (omega arith)
+returns c = written (2 * c.loop-s.s + 2) _ _ _ _ c.loop-s.invariant.1 (omega arith) (omega arith)

@@ -1,6 +1,6 @@
 -- `tiles::weights::pair_weights` meets its contract. The invariant: the first s weights are there, twice each.
 -- Assumes nothing.
-use Prim.Native.Nat.{◌≤◌, ◌-◌, ◌+◌, ◌*◌}
+use Prim.Native.Nat.{◌+◌, ◌*◌}
 use mathlib.Core.Path.{◌≡◌}
 use lib.ListN.{length}
 use Rattle.numbers.specs.Words.{tabulate}
@@ -9,7 +9,4 @@ use Rattle.tiles.specs.internal.Weights.{pair_word}
 use Rattle.tiles.proofs.weights.pair_weights.Given as goal
 
 abbrev pub invariant-loop-s : goal.invariant-loop-s
-invariant-loop-s l = (l.s ≤ length l.weights) × (length l.pairs ≡ 2 * (length l.weights + 1)) × Writing (tabulate (2 * l.s + 2) (pair_word l.weights)) l.initial.pairs l.pairs
-
-abbrev pub decreases-loop-s : goal.decreases-loop-s
-decreases-loop-s l = length l.weights - l.s
+invariant-loop-s l = (length l.pairs ≡ 2 * (length l.weights + 1)) × Writing (tabulate (2 * l.s + 2) (pair_word l.weights)) l.initial.pairs l.pairs

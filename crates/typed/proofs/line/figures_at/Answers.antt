@@ -1,48 +1,55 @@
--- `typed::line::figures_at` meets its contract. The loop's invariant: `count` digits stand from the place up to `at`, for `value`.
+-- `typed::line::figures_at` meets its contract. The loop's invariant: digits stand from the place up to `at`, for `value`.
 -- Assumes nothing.
-use Prim.Native.Nat.{◌+◌, ◌*◌}
-use mathlib.Core.Path.{refl, sym, ap, ◌∙◌}
+use Prim.Native.Nat.{◌+◌, ◌-◌, ◌*◌}
+use mathlib.Core.Path.{◌≡◌, sym, ap, ap₂, ◌∙◌, subst}
 use native.Mathlib.Omega.{arith}
-use lib.ListN.{drop}
-use Rattle.typed.specs.internal.Line.{figures}
-use Rattle.typed.proofs.LineLaws.{figures-go, figures-low, figures-high, figures-full, figures-end, number-told, ten-step, ten-small}
+use Rattle.std.specs.Prelude.{Option}
+use lib.ListN.{length, drop}
+use Rattle.typed.specs.declared.line.Number.{Number}
+use Rattle.typed.specs.internal.Line.{figures, NumberAt}
+use Rattle.typed.proofs.LineLaws.{figures-go, figures-none, figures-full, figures-end, number-told, ten-step, ten-small}
 use Rattle.typed.proofs.line.figures_at.Goals as goal
+use Rattle.typed.proofs.line.figures_at.Goals.{then-not-is_ascii_digit-via-then-not-is_ascii_digit, then-not-is_ascii_digit-via-else-not-is_ascii_digit+then-at-from}
 
-pub loop-at-init : goal.loop-at-init
-loop-at-init c = (omega arith, omega arith, omega arith, refl)
-
-pub bounds-input-at : goal.bounds-input-at
-bounds-input-at c = omega arith
-
-pub returns-then-b-lt-ZERO : goal.returns-then-b-lt-ZERO
-returns-then-b-lt-ZERO c = let s = c.args.input.now in let l = c.loop-at in number-told s l.at l.value l.count _ l.invariant.3 (figures-low s l.at l.value l.count (omega arith) c.if-b-lt-ZERO.true) (omega arith)
-
-pub returns-then-b-gt-NINE : goal.returns-then-b-gt-NINE
-returns-then-b-gt-NINE c = let s = c.args.input.now in let l = c.loop-at in number-told s l.at l.value l.count _ l.invariant.3 (figures-high s l.at l.value l.count (omega arith) c.if-b-gt-NINE.true) (omega arith)
-
-pub returns-then-count-eq-MOST_DIGITS : goal.returns-then-count-eq-MOST_DIGITS
-returns-then-count-eq-MOST_DIGITS c = let s = c.args.input.now in let l = c.loop-at in number-told s l.at l.value l.count _ l.invariant.3 (figures-full s l.at l.value l.count (omega arith) (omega arith) (omega arith) (omega arith)) (omega arith)
+pub returns-then-not-is_ascii_digit : goal.returns-then-not-is_ascii_digit
+returns-then-not-is_ascii_digit c =
+    let s = c.args.input.now in
+    let l = c.loop-at in
+    let k = l.at - c.args.from in
+    let f = figures 0 0 (drop c.args.from s) in
+    subst (λ (x : Option Number). NumberAt f s x) (sym c.told.ensures)
+    (elim c.then-not-is_ascii_digit.branch [
+      | then-not-is_ascii_digit-via-then-not-is_ascii_digit w ↦ number-told s l.at l.value k c.args.from f l.invariant.2 (figures-none s l.at l.value k (omega arith) w.if-not-is_ascii_digit.ensures.cases) (omega arith) (omega arith)
+      | then-not-is_ascii_digit-via-else-not-is_ascii_digit+then-at-from w ↦
+          let d = w.if-not-is_ascii_digit.ensures.cases in
+          number-told s l.at l.value k c.args.from f l.invariant.2 (figures-full s l.at l.value k (omega arith) (omega arith) (omega arith) (omega arith)) (omega arith) (omega arith)
+    ])
 
 pub overflow_mul-value : goal.overflow_mul-value
-overflow_mul-value c = let s = ten-small c.loop-at.count (omega arith) in record { fits = omega arith }
-
-pub digit_of-requires : goal.digit_of-requires
-digit_of-requires c = omega arith
+overflow_mul-value c = let z = ten-small (c.loop-at.at - c.args.from) (omega arith) in omega arith
 
 pub overflow_add-value : goal.overflow_add-value
-overflow_add-value c = let s = ten-small c.loop-at.count (omega arith) in let d = c.digit_of.ensures in record { fits = omega arith }
-
-pub overflow_add-count : goal.overflow_add-count
-overflow_add-count c = omega arith
-
-pub overflow_add-at : goal.overflow_add-at
-overflow_add-at c = omega arith
-
-pub loop-at-smaller : goal.loop-at-smaller
-loop-at-smaller c = omega arith
+overflow_add-value c = let z = ten-small (c.loop-at.at - c.args.from) (omega arith) in let d = c.if-not-is_ascii_digit.ensures.cases in omega arith
 
 pub loop-at-preserved : goal.loop-at-preserved
-loop-at-preserved c = let s = c.args.input.now in let l = c.loop-at in let e = ten-step l.count in let d = c.digit_of.ensures in (omega arith, omega arith, omega arith, l.invariant.3 ∙ figures-go s l.at l.value l.count (omega arith) (omega arith) (omega arith) (omega arith) ∙ ap (λ x. figures (l.value * 10 + x) (l.count + 1) (drop (l.at + 1) s)) (sym d))
+loop-at-preserved c =
+    let s = c.args.input.now in
+    let l = c.loop-at in
+    let k = l.at - c.args.from in
+    let d = c.if-not-is_ascii_digit.ensures.cases in
+    let e = ten-step k in
+    let n : l.at + 1 - c.args.from ≡ k + 1 = omega arith in (
+      omega arith,
+      rw n (omega arith),
+      l.invariant.2 ∙ figures-go s l.at l.value k (omega arith) (omega arith) (omega arith) (omega arith)
+          ∙ ap₂ (λ x i. figures (l.value * 10 + x) i (drop (l.at + 1) s)) (sym c.from.ensures) (sym n),
+    )
 
 pub returns : goal.returns
-returns c = let s = c.args.input.now in let l = c.loop-at in number-told s l.at l.value l.count _ l.invariant.3 (figures-end s l.at l.value l.count (omega arith)) (omega arith)
+returns c =
+    let s = c.args.input.now in
+    let from = c.args.from in
+    let l = c.loop-at in
+    let end : l.at ≡ length s = omega arith in
+    subst (λ (x : Option Number). NumberAt (figures 0 0 (drop from s)) s x) (sym c.told-2.ensures)
+    (number-told s (length s) l.value (length s - from) from (figures 0 0 (drop from s)) (l.invariant.2 ∙ ap (λ q. figures l.value (q - from) (drop q s)) end) (figures-end s (length s) l.value _ (omega arith)) (omega arith) (omega arith))
