@@ -61,7 +61,8 @@ blanks-pass (b ∷ s) st h = go (blanks-pass s st h) (eqb b 32) refl
         ∙ ap (λ (n : ℕ). scan st (drop n (b ∷ s))) (let z : suc (position_or_len (λ b. not (eqb b 32)) s) ≡ 1 + position_or_len (λ b. not (eqb b 32)) s = omega arith in z)
     go rest false e = refl
 
-position-or : (test : ℕ → Bool) (s : List ℕ) → unwrap_or (position test s) (length s) ≡ position_or_len test s
+-- the first place where a test holds, and past the end where it holds nowhere
+pub position-or : (test : ℕ → Bool) (s : List ℕ) → unwrap_or (position test s) (length s) ≡ position_or_len test s
 position-or test s =
     let at = position_or_len test s in
     ⊎_elim

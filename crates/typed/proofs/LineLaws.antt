@@ -26,6 +26,7 @@ use lib.Seq.{drop-cons, take_all, take-nil, get_or-drop, drop-drop}
 use mathlib.Core.Logic.{⊎_elim}
 use Rattle.numbers.specs.Words.{word, choose, outside}
 use Rattle.numbers.proofs.WordsLaws.{lt-or-ge, true-false}
+use Rattle.read.proofs.ByteLaws.{position-or}
 use Rattle.typed.specs.declared.line.Number.{Number}
 use Rattle.typed.specs.Order.{asks, none, unended}
 use Rattle.typed.specs.internal.Line.{after_blanks, Figures, figures_of, figures, number_in, begins, order_end, order_rest, order_from, told, BlanksAt, NumberIs, NumberAt}
@@ -48,14 +49,6 @@ blanks-off (b ∷ s) = go (blanks-off s) (eqb b 32)
         ap (λ (n : ℕ). drop n (b ∷ s)) (let z : 1 + position_or_len (λ b. not (eqb b 32)) s ≡ suc (position_or_len (λ b. not (eqb b 32)) s) = omega arith in z)
         ∙ rest
     go rest false = refl
-
-position-or : (test : ℕ → Bool) (s : List ℕ) → unwrap_or (position test s) (length s) ≡ position_or_len test s
-position-or test s =
-    let at = position_or_len test s in
-    ⊎_elim
-    (λ (l : at < length s). ap (λ (b : Bool). unwrap_or (cond b (Some at) None) (length s)) (lt-ltb at (length s) l))
-    (λ (l : length s ≤ at). ap (λ (b : Bool). unwrap_or (cond b (Some at) None) (length s)) (le-ltb at (length s) l) ∙ (let z = prefix_len-le-length (λ b. not (test b)) s in omega arith))
-    (lt-or-ge at (length s))
 
 pub blanks-past : (s : List ℕ) (from k : ℕ) (r : Option ℕ) → from ≤ length s
     → r ≡ position (λ b. not (eqb b 32)) (take (length s - from) (drop from s)) → k ≡ unwrap_or r (length (take (length s - from) (drop from s))) → BlanksAt s from (from + k)
