@@ -132,12 +132,14 @@ pub fn start_row(first: u32, row: &mut [u32])
     row[0] = first;
 }
 
-// The words, over the first of out.
+// The words, over the first of out. By `copy_from_slice` the archive for C would need `memmove` beside `memcpy`.
 pub fn copy(words: &[u32], out: &mut [u32])
     requires { length words.now ≤ length out.old }
     ensures { out.new ≡ over words.now out.old }
 {
-    out[..words.len()].copy_from_slice(words)
+    for i in 0..words.len() {
+        out[i] = words[i];
+    }
 }
 
 // 0 from column w on, in every row.

@@ -20,16 +20,17 @@ pub enum Mode {
     Stuck, // the text cannot be read
 }
 
-// The mode, digits and value of the number that is read, where 256 stands for all above 255, and the brackets that are open.
+// The mode, digits and value of the number that is read, where 256 stands for all above 255, and the brackets that are open. Each byte of the text makes
+// one of these: so the fields are as small as they can be, and leave no gap to copy.
 #[derive(Clone, Copy)]
 pub struct Glance {
     pub mode: Mode,
-    pub digits: u32,
-    pub value: u32,
-    pub depth: u32,
+    pub digits: u8,
+    pub value: u16,
+    pub depth: u16,
 }
 
-fn state_of(mode: Mode, digits: u32, value: u32, depth: u32) -> Glance
+fn state_of(mode: Mode, digits: u8, value: u16, depth: u16) -> Glance
     ensures { result ≡ at mode digits value depth }
 {
     Glance {
@@ -46,18 +47,18 @@ fn stuck() -> Glance
     state_of(Mode::Stuck, 0, 0, 0)
 }
 
-fn cap(v: u32) -> u32
+fn cap(v: u32) -> u16
     ensures { result ≡ capped v }
 {
-    v.min(LARGEST_POWER + 1)
+    v.min(LARGEST_POWER + 1) as u16
 }
 
-fn is_whole(mode: Mode, value: u32) -> bool
+fn is_whole(mode: Mode, value: u16) -> bool
     ensures { result ≡ whole (at mode 0 value 0) }
 {
     match mode {
         Mode::Number | Mode::After | Mode::Done => true,
-        Mode::Power => value <= LARGEST_POWER, // 256 stands for all above
+        Mode::Power => u32::from(value) <= LARGEST_POWER, // 256 stands for all above
         _ => false,
     }
 }
@@ -67,7 +68,7 @@ fn after_blank(g: Glance) -> Glance
 {
     match g.mode {
         Mode::Number => state_of(Mode::After, 0, 0, g.depth), // the number has ended
-        Mode::Power if g.value <= LARGEST_POWER => state_of(Mode::Done, 0, 0, g.depth),
+        Mode::Power if u32::from(g.value) <= LARGEST_POWER => state_of(Mode::Done, 0, 0, g.depth),
         Mode::Power => stuck(),
         _ => g,
     }
@@ -79,11 +80,16 @@ fn after_digit(g: Glance, d: u32) -> Glance
 {
     match g.mode {
         Mode::Begin | Mode::Want => state_of(Mode::Number, 1, 0, g.depth),
-        Mode::Number if g.digits < MOST_DIGITS => state_of(Mode::Number, g.digits + 1, 0, g.depth),
-        Mode::Caret => state_of(Mode::Power, 1, cap(d), g.depth),
-        Mode::Power if g.digits < MOST_DIGITS => {
-            state_of(Mode::Power, g.digits + 1, cap(g.value * 10 + d), g.depth)
+        Mode::Number if u32::from(g.digits) < MOST_DIGITS => {
+            state_of(Mode::Number, g.digits + 1, 0, g.depth)
         }
+        Mode::Caret => state_of(Mode::Power, 1, cap(d), g.depth),
+        Mode::Power if u32::from(g.digits) < MOST_DIGITS => state_of(
+            Mode::Power,
+            g.digits + 1,
+            cap(u32::from(g.value) * 10 + d),
+            g.depth,
+        ),
         _ => stuck(),
     }
 }
@@ -127,7 +133,7 @@ fn after_caret(g: Glance) -> Glance
 }
 
 fn after_open(g: Glance) -> Glance
-    requires { g.depth < 4294967295 }
+    requires { g.depth < 65535 }
     ensures { result ≡ open_next g }
 {
     match g.mode {
@@ -148,7 +154,7 @@ fn after_close(g: Glance) -> Glance
 
 // One byte more.
 fn next(g: Glance, k: Kind) -> Glance
-    requires { (g.depth < 4294967295) × (g.value ≤ 256) × ((d : ℕ) → k ≡ Kind.Digit d → d ≤ 9) }
+    requires { (g.depth < 65535) × (g.value ≤ 256) × ((d : ℕ) → k ≡ Kind.Digit d → d ≤ 9) }
     ensures { result ≡ glance_next g k }
 {
     match k {

@@ -2,7 +2,7 @@
 #![tactic(auto)]
 
 ghost use Rattle.std.specs.Prelude.{◌≡◌, [], ◌∷◌, ◌-◌, ◌*◌, ◌≤◌, ◌<◌, length};
-ghost use Rattle.numbers.specs.Refusals.{judge, outcome, outcome_after, written, room_check, verdict};
+ghost use Rattle.numbers.specs.Refusals.{judge, outcome, outcome_after, written, room_check, verdict, Pass};
 ghost use Rattle.numbers.specs.Limits.{most_rows, largest_width};
 ghost use Rattle.numbers.specs.internal.Limits.{modulus_bound};
 ghost use Rattle.numbers.specs.Words.{word, over, tabulate};
@@ -83,15 +83,23 @@ fn hand_over(n: usize, rows: usize, value: &[u32], out: &mut [u32]) -> Result<u3
     Ok((rows - 1) as u32)
 }
 
+// Reads a text that has passed refusals 1 to 18. This stands apart so that the room for the value is cleared only where it is used, and once.
+fn read_checked(ring: Ring, text: &[u8], out: &mut [u32]) -> Result<u32, Refusal>
+    requires { judge (text_checks ring.p ring.n (length text.now) (scan (State.lead Stack.bottom) text.now)) ≡ Pass }
+    ensures { ReadOf ring.p ring.n text.now out.old (outcome result) out.new }
+{
+    let mut value = [0u32; VALUE_ROOM];
+    let Some(part) = evaluate::sum_at(ring, text, 0, &mut value) else {
+        return Err(Refusal::High);
+    };
+    hand_over(ring.n, part.rows, &value, out)
+}
+
 // Reads a typed polynomial: its rows modulo p and X^n go to the front of `out`, and the answer is its Y-degree.
 pub fn read(p: u32, n: u32, text: &[u8], out: &mut [u32]) -> Result<u32, Refusal>
     ensures { ReadOf p n text.now out.old (outcome result) out.new }
 {
     check_text(p, n, text)?;
     let ring = Ring { p, n: n as usize };
-    let mut value = [0u32; VALUE_ROOM];
-    let Some(part) = evaluate::sum_at(ring, text, 0, &mut value) else {
-        return Err(Refusal::High);
-    };
-    hand_over(ring.n, part.rows, &value, out)
+    read_checked(ring, text, out)
 }

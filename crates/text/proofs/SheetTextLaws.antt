@@ -59,8 +59,6 @@ row_fits from m n j l h g =
     let z : suc j * n ≤ m * n = mul-le-mul {n₂ = m} {m₂ = n} g (omega arith) in
     omega (arith, suc-mul j n)
 
--- and its words are below p
-
 -- rows of entries, by other names of their numbers
 pub entries-as : {s : List ℕ} {p o n m q u k l : ℕ} → p ≡ q → o ≡ u → n ≡ k → m ≡ l → Entries q s u k l → Entries p s o n m
 entries-as a b c d e = rw (a, b, c, d) e
